@@ -1,0 +1,4 @@
+pub mod CutTexts
+pub mod DigitTexts
+pub mod Numerals
+pub mod Pieces

@@ -1,0 +1,193 @@
+-- What numerals are read as and written as.
+use Rattle.std.proofs.Common.{◌≡◌, ℕ, ◌+◌, ◌-◌, ◌*◌, ◌/◌, ◌%◌, ◌^◌, ◌<◌, ◌≤◌, ◌⊎◌, inl, inr, Bool, true, false, cond, eqb, leb, ◌&&◌, List, [], ◌∷◌, ◌++◌, length, get_or, drop, Option, Some, None, Result, Ok, Err, ℤ, pos, negsuc, neg_ℤ, unsigned_abs, decimal, refl, sym, ap, ◌∙◌, arith, zero, suc, append_assoc, IfSome, IfOk, FitsSigned}
+use Rattle.std.proofs.lemmas.Fmt.{decimal_is_IsNumeral_wide}
+use Rattle.cpl_base.proofs.DigitTexts.{are_digits-numeral, decimal-lean, six_digits-of}
+use Rattle.std.proofs.lemmas.Bool.{and_parts, cases_Bool, leb-true, le-leb, le-ltb, ne_eqb, eqb-true, false≢true}
+use Rattle.std.proofs.lemmas.List.{append-nil}
+use Rattle.std.specs.Int.{is_negative, w128}
+use Rattle.std.specs.List.{list_all}
+use Rattle.cpl_base.specs.Numbers.{IsValue, greatest, million}
+use Rattle.cpl_base.specs.Numerals.{Numeral, Writes, are_digits, are_places, behind, cut_at, fraction, is_digit, judged, millionths, onto_front, parts_of, ranged, read_parts, sign, signed, signed_part, six_digits, value_of, written}
+use Rattle.cpl_base.specs.declared.value.ValFault.{ValFault}
+use Rattle.cpl_base.specs.declared.value.ValFault.TheVariants.{Digits}
+
+-- ---- a numeral is read as what it denotes
+
+-- a byte that is none of the digits
+is_digit-other : (c at : ℕ) → is_digit c ≡ true → is_digit at ≡ false → eqb c at ≡ false
+is_digit-other c at d o = ne_eqb c at (λ e. false≢true (sym o ∙ ap is_digit (sym e) ∙ d))
+
+-- no point stands in digits
+cut_at-digits : (units : List ℕ) → list_all is_digit units ≡ true → cut_at 46 units ≡ None
+cut_at-digits [] all = refl
+cut_at-digits (c ∷ cs) all =
+    let parts = and_parts (is_digit c) (list_all is_digit cs) all in
+    let ne = is_digit-other c 46 parts.0 refl in
+    let rest = cut_at-digits cs parts.1 in
+    rw (ne, rest) refl
+
+-- the first point stands behind the digits
+cut_at-point : (units places : List ℕ) → list_all is_digit units ≡ true → cut_at 46 (units ++ 46 ∷ places) ≡ Some (units, places)
+cut_at-point [] places all = refl
+cut_at-point (c ∷ cs) places all =
+    let parts = and_parts (is_digit c) (list_all is_digit cs) all in
+    let ne = is_digit-other c 46 parts.0 refl in
+    let rest = cut_at-point cs places parts.1 in
+    rw (ne, rest) refl
+
+-- digits and a fraction are taken apart into just these
+parts_of-spelled : (units : List ℕ) (places : Option (List ℕ)) → list_all is_digit units ≡ true → parts_of (units ++ fraction places) (cut_at 46 (units ++ fraction places)) ≡ (units, places)
+parts_of-spelled units None all = rw (append-nil units, cut_at-digits units all) refl
+parts_of-spelled units (Some places) all = rw (cut_at-point units places all) refl
+
+-- a numeral's parts are judged
+read_parts-digits : (minus : Bool) (units : List ℕ) (places : Option (List ℕ)) → are_digits units ≡ true → are_places places ≡ true → read_parts minus (units, places) ≡ judged minus units (behind places)
+read_parts-digits minus units places u p = rw (u, p) refl
+
+value_of-spelled : (minus : Bool) (units : List ℕ) (places : Option (List ℕ)) → are_digits units ≡ true → are_places places ≡ true → value_of (sign minus ++ units ++ fraction places) ≡ judged minus units (behind places)
+unfolding value_of
+value_of-spelled minus [] places u p = absurd (false≢true u)
+value_of-spelled true (c ∷ cs) places u p =
+    ap (read_parts true) (parts_of-spelled (c ∷ cs) places u) ∙ read_parts-digits true (c ∷ cs) places u p
+value_of-spelled false (c ∷ cs) places u p =
+    let ne = is_digit-other c 45 (and_parts (is_digit c) (list_all is_digit cs) u).0 refl in
+    rw ne (ap (read_parts false) (parts_of-spelled (c ∷ cs) places u) ∙ read_parts-digits false (c ∷ cs) places u p)
+
+-- whichever way a text is a numeral, its value is judged by those parts
+pub value_of-numeral : (text : List ℕ) (n : Numeral text) → value_of text ≡ judged n.minus n.units (behind n.places)
+value_of-numeral text n =
+    ap value_of n.spelled ∙ value_of-spelled n.minus n.units n.places n.unit_digits n.place_digits
+
+-- ---- any other text is none
+
+-- a sign and what stands behind it are the text
+signed_part-joined : (text : List ℕ) → text ≡ sign (signed_part text).0 ++ (signed_part text).1
+signed_part-joined [] = refl
+signed_part-joined (c ∷ cs) =
+    elim (cases_Bool (eqb c 45)) [
+      | inl e ↦ rw e (ap (λ (x : ℕ). x ∷ cs) (eqb-true c 45 e))
+      | inr e ↦ rw e refl
+    ]
+
+-- the text, taken apart at a byte
+abbrev IsCut : ℕ → List ℕ → Option (List ℕ × List ℕ) → Type 0
+IsCut at text o = IfSome o (λ h. text ≡ h.0 ++ at ∷ h.1)
+
+onto_front-cut : (at c : ℕ) (cs : List ℕ) (o : Option (List ℕ × List ℕ)) → IsCut at cs o → IsCut at (c ∷ cs) (onto_front c o)
+onto_front-cut at c cs None cut = tt
+onto_front-cut at c cs (Some h) cut = ap (λ (xs : List ℕ). c ∷ xs) cut
+
+cut_at-cut : (at : ℕ) (text : List ℕ) → IsCut at text (cut_at at text)
+cut_at-cut at [] = tt
+cut_at-cut at (c ∷ cs) =
+    elim (cases_Bool (eqb c at)) [
+      | inl e ↦ rw e (ap (λ (x : ℕ). x ∷ cs) (eqb-true c at e))
+      | inr e ↦ rw e (onto_front-cut at c cs (cut_at at cs) (cut_at-cut at cs))
+    ]
+
+parts_of-joined : (text : List ℕ) (o : Option (List ℕ × List ℕ)) → IsCut 46 text o → text ≡ (parts_of text o).0 ++ fraction (parts_of text o).1
+parts_of-joined text None cut = sym (append-nil text)
+parts_of-joined text (Some h) cut = cut
+
+-- a text is a numeral, or it is read as none
+pub numeral_or_none : (text : List ℕ) → Numeral text ⊎ (value_of text ≡ Err Digits)
+unfolding value_of
+numeral_or_none text =
+    let s = signed_part text in
+    let p = parts_of s.1 (cut_at 46 s.1) in
+    let joined = parts_of-joined s.1 (cut_at 46 s.1) (cut_at-cut 46 s.1) in
+    elim (cases_Bool (are_digits p.0 && are_places p.1)) [
+      | inl e ↦ inl record {
+        minus = s.0;
+        units = p.0;
+        places = p.1;
+        spelled = signed_part-joined text ∙ ap (λ r. sign s.0 ++ r) joined ∙ sym (append_assoc (sign s.0) p.0 (fraction p.1));
+        unit_digits = (and_parts (are_digits p.0) (are_places p.1) e).0;
+        place_digits = (and_parts (are_digits p.0) (are_places p.1) e).1;
+      }
+      | inr e ↦ inr (rw e refl)
+    ]
+
+-- ---- what is read is a value
+
+unsigned_abs-signed : (minus : Bool) (m : ℕ) → unsigned_abs (signed minus m) ≡ m
+unsigned_abs-signed true zero = refl
+unsigned_abs-signed true (suc m) = refl
+unsigned_abs-signed false m = refl
+
+ranged-within : (minus : Bool) (m : ℕ) → IfOk (ranged minus m) IsValue
+ranged-within minus m =
+    elim (cases_Bool (leb m greatest)) [
+      | inl e ↦ rw (e, unsigned_abs-signed minus m) (leb-true m greatest e)
+      | inr e ↦ rw e tt
+    ]
+
+judged-within : (minus : Bool) (units places : List ℕ) → IfOk (judged minus units places) IsValue
+judged-within minus units places =
+    elim (cases_Bool (leb (length places) 6)) [
+      | inl e ↦ rw e (ranged-within minus (millionths units places))
+      | inr e ↦ rw e tt
+    ]
+
+-- what a text is read as is a value
+pub value_of-within : (text : List ℕ) → IfOk (value_of text) IsValue
+value_of-within text =
+    elim (numeral_or_none text) [
+      | inl n ↦ rw (value_of-numeral text n) (judged-within n.minus n.units (behind n.places))
+      | inr e ↦ rw e tt
+    ]
+
+-- ---- the text that is written
+
+-- every number of 128 bits has a text of `decimal`
+unsigned_abs-below : (z : ℤ) → FitsSigned w128 z → unsigned_abs z < 10 ^ 64
+unsigned_abs-below (pos n) fits = omega (arith, fits.sfits)
+unsigned_abs-below (negsuc n) fits = omega (arith, fits.sfits)
+
+signed-unsigned_abs : (z : ℤ) → signed (is_negative z) (unsigned_abs z) ≡ z
+signed-unsigned_abs (pos n) = rw (le-ltb n 0 (omega arith)) refl
+signed-unsigned_abs (negsuc n) = refl
+
+-- what is written of a number is a numeral that writes it
+pub written_writes : (z : ℤ) → FitsSigned w128 z → Writes (written z) z
+unfolding written
+written_writes z fits =
+    let n = unsigned_abs z in
+    let units = n / million in
+    let below = unsigned_abs-below z fits in
+    let whole = decimal_is_IsNumeral_wide units (omega arith) in
+    let six = six_digits-of (n % million) (omega arith) in
+    let parts : millionths (decimal units) (six_digits (n % million)) ≡ n = rw (whole.1, six.number_is, six.length_is) (omega arith) in
+    record {
+      numeral = record {
+        minus = is_negative z;
+        units = decimal units;
+        places = Some (six_digits (n % million));
+        spelled = refl;
+        unit_digits = are_digits-numeral (decimal units) whole.0;
+        place_digits = six.digits_are;
+      };
+      minus = refl;
+      lean = decimal-lean units (omega arith);
+      six = six.length_is;
+      number_is = ap (signed (is_negative z)) parts ∙ signed-unsigned_abs z;
+    }
+
+-- parts that denote a value are judged to be that value
+judged-value : (minus : Bool) (units places : List ℕ) (z : ℤ) → length places ≤ 6 → signed minus (millionths units places) ≡ z → IsValue z → judged minus units places ≡ Ok z
+judged-value minus units places z short is value =
+    let m = millionths units places in
+    let same : m ≡ unsigned_abs z = sym (unsigned_abs-signed minus m) ∙ ap unsigned_abs is in
+    rw (le-leb (length places) 6 short, le-leb m greatest (rw same value)) (ap Ok is)
+
+-- what is written of a value is read as that value
+pub written_again : (z : ℤ) → FitsSigned w128 z → IsValue z → value_of (written z) ≡ Ok z
+written_again z fits value =
+    let w = written_writes z fits in
+    let n = w.numeral in
+    value_of-numeral (written z) n ∙ judged-value n.minus n.units (behind n.places) z (omega (arith, w.six)) w.number_is value
+
+-- what stands after a sign, the whole units, a point and six digits were appended in turn
+pub written-appended : (z : ℤ) (old signed units pointed all : List ℕ) → signed ≡ old ++ sign (is_negative z) → units ≡ signed ++ decimal (unsigned_abs z / million) → pointed ≡ units ++ 46 ∷ [] → all ≡ pointed ++ six_digits (unsigned_abs z % million) → all ≡ old ++ written z
+unfolding written
+written-appended z old signed units pointed all a b c d = rw (d, c, b, a) (simp append_assoc)
