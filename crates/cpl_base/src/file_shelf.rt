@@ -4,11 +4,10 @@ ghost use Rattle.std.specs.Prelude.{◌≡◌};
 
 use crate::shelf::{LoadFault, Shelf};
 use std::alloc::Global;
-use std::fs;
 use std::fs::OpenFile;
-use std::io;
 use std::io::Read;
 use std::rt::Files;
+use std::{fs, io};
 
 /// Regular files, by their paths from the current folder. It tells nothing of them.
 #[derive(Debug, Drop)]
@@ -27,7 +26,12 @@ impl<R: Files> FileShelf<R> {
 }
 
 /// The bytes of a regular file, but no more than one past the limit.
-fn read_within<R: Files>(system: &R, alloc: Global, name: &str, limit: usize) -> io::Result<Vec<u8>> {
+fn read_within<R: Files>(
+    system: &R,
+    alloc: Global,
+    name: &str,
+    limit: usize,
+) -> io::Result<Vec<u8>> {
     // Looked at before it is opened, since to open a pipe may wait for its writer.
     if !fs::metadata(system, name)?.is_file() {
         return Err(io::Error::from(io::ErrorKind::InvalidInput));

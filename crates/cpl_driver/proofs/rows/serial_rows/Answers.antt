@@ -1,0 +1,23 @@
+use Rattle.std.proofs.Common.{refl}
+use Rattle.cpl_driver.specs.Answers.{answer}
+use Rattle.cpl_driver.specs.Files.{line, lines_of, system_in, system_of}
+use Rattle.cpl_driver.proofs.Examples.{counting_is, counting_ends, counting_said, doubling_is, doubling_ends, doubling_said}
+use Rattle.cpl_driver.proofs.rows.serial_rows.Goals as goal
+
+pub returns : goal.returns
+unfolding answer system_of system_in lines_of line
+returns c = record {
+  describes_counting = counting_is;
+  describes_doubling = doubling_is;
+  runs_counting = counting_ends;
+  runs_doubling = doubling_ends;
+  counts = counting_said;
+  doubles = doubling_said;
+  two_cells = refl;
+  open_table = refl;
+  empty = refl;
+  missing = refl;
+  no_file = refl;
+  minus = refl;
+  other_command = refl;
+}

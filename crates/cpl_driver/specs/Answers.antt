@@ -1,0 +1,109 @@
+-- What a run has to answer: its status, and the texts that it writes.
+use Rattle.std.specs.Prelude.{◌≡◌, ℕ, ℤ, pos, ◌+ℤ◌, Bool, true, false, not, ◌&&◌, ◌==◌, if◌then◌else◌, nat_lt, List, [], ◌∷◌, ◌++◌, length, fold, codes, decimal, Option, Some, None}
+use Rattle.std.specs.Int.{int_min, int_max}
+use Rattle.std.specs.Str.{bytes_eq}
+use Rattle.cpl_base.specs.Numerals.{written}
+use Rattle.cpl_base.specs.Outside.{Files}
+use Rattle.cpl_driver.specs.Files.{system_of}
+use Rattle.cpl_driver.specs.Runs.{World, operations, serial}
+use Rattle.cpl_driver.specs.declared.status.Status.{Status}
+use Rattle.cpl_driver.specs.declared.status.Status.TheVariants as status
+use Rattle.cpl_driver.specs.declared.system.System.{System}
+
+-- ---- the words of a command
+
+-- a file's name isn't empty and doesn't begin with `-`
+abbrev pub is_file_word : List ℕ → Bool
+is_file_word [] = false
+is_file_word (c ∷ cs) = not (c == 45)
+
+-- the file to run, where the words are `run FILE`
+abbrev pub file_to_run : List (List ℕ) → Option (List ℕ)
+file_to_run [] = None
+file_to_run (command ∷ []) = None
+file_to_run (command ∷ file ∷ []) = if bytes_eq command (codes "run") && is_file_word file then Some file else None
+file_to_run (command ∷ file ∷ other ∷ more) = None
+
+-- ---- texts
+
+abbrev pub end_of_line : List ℕ
+end_of_line = 10 ∷ []
+
+abbrev pub usage_line : List ℕ
+usage_line = codes "usage: esmcouple run CONF [--workers N] [--trace] | serial CONF [--trace] | check CONF | plan CONF | demo SEED [--workers N]" ++ end_of_line
+
+abbrev pub read_fault_line : List ℕ → List ℕ
+read_fault_line name = codes "read fault " ++ name ++ end_of_line
+
+abbrev pub too_long_line : List ℕ → List ℕ
+too_long_line name = codes "refused 1 TooLong " ++ name ++ end_of_line
+
+abbrev pub not_yet_built_line : List ℕ
+not_yet_built_line = codes "refused 62 NotYetBuilt 1" ++ end_of_line
+
+-- the least of the values, the greatest and the sum
+abbrev pub least : List ℤ → ℤ
+least [] = pos 0
+least (x ∷ xs) = fold int_min x xs
+
+abbrev pub most : List ℤ → ℤ
+most [] = pos 0
+most (x ∷ xs) = fold int_max x xs
+
+abbrev pub sum : List ℤ → ℤ
+sum [] = pos 0
+sum (x ∷ xs) = fold ◌+ℤ◌ x xs
+
+abbrev pub operations_line : ℕ → List ℕ
+operations_line count = codes "operations " ++ decimal count ++ end_of_line
+
+abbrev pub component_line : List ℕ → ℕ → ℕ → List ℕ
+component_line name runs clock = codes "component " ++ name ++ codes " runs " ++ decimal runs ++ codes " clock " ++ decimal clock ++ end_of_line
+
+abbrev pub variable_line : List ℕ → List ℤ → List ℕ
+variable_line name cells =
+    codes "var " ++ name ++ codes " min " ++ written (least cells) ++ codes " max " ++ written (most cells) ++ codes " sum " ++ written (sum cells) ++ end_of_line
+
+-- what a run of a system leaves, as a text
+unfoldable pub report : System → ℕ → World → List ℕ
+report system count world =
+    operations_line count ++ component_line system.component world.runs world.clock
+    ++ variable_line system.field world.cells ++ codes "end ok\n"
+
+-- ---- answers
+
+-- a status, and the text that goes with it: to standard output where the status is Ok, else to
+-- standard error
+pub record Reply : Type 0 where
+  pub status : Status
+  pub text : List ℕ
+
+-- a resource file has so many bytes at the most: 4 MiB
+abbrev pub most_bytes : ℕ
+most_bytes = 4194304
+
+abbrev pub usage : Reply
+usage = record { status = status.Usage; text = usage_line }
+
+abbrev pub unread : List ℕ → Reply
+unread name = record { status = status.ReadFault; text = read_fault_line name }
+
+abbrev pub too_long : List ℕ → Reply
+too_long name = record { status = status.Refused; text = too_long_line name }
+
+-- the reply to a file that is read: the serial run of the system that it describes, or a refusal
+abbrev pub reply_for : Option System → Reply
+reply_for None = record { status = status.Refused; text = not_yet_built_line }
+reply_for (Some system) = record { status = status.Ok; text = report system (length (operations system)) (serial system) }
+
+abbrev pub reply_to : List ℕ → Option (List ℕ) → Reply
+reply_to name None = unread name
+reply_to name (Some bytes) = if nat_lt most_bytes (length bytes) then too_long name else reply_for (system_of bytes)
+
+abbrev pub reply_with : Files → Option (List ℕ) → Reply
+reply_with files None = usage
+reply_with files (Some name) = reply_to name (files name)
+
+-- what the words ask for, over these files
+unfoldable pub answer : List (List ℕ) → Files → Reply
+answer words files = reply_with files (file_to_run words)

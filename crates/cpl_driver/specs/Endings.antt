@@ -1,0 +1,17 @@
+-- What a run leaves, against the serial reading.
+use Rattle.std.specs.Prelude.{◌≡◌, ℕ, List, [], ◌∷◌, length}
+use Rattle.cpl_driver.specs.Answers.{report}
+use Rattle.cpl_driver.specs.Runs.{World, operations, serial}
+use Rattle.cpl_driver.specs.declared.running.Ending.{Ending}
+use Rattle.cpl_driver.specs.declared.system.System.{System}
+
+-- the ending is that of the system's serial run
+pub record IsEnding (system : System) (ending : Ending) : Type 0 where
+  pub count : ending.operations ≡ length (operations system)
+  pub runs : ending.runs ≡ (serial system).runs
+  pub clock : ending.clock ≡ (serial system).clock
+  pub cells : (serial system).cells ≡ ending.value ∷ []
+
+-- the report on what a run left
+abbrev pub ending_text : System → Ending → List ℕ
+ending_text system ending = report system ending.operations (record { clock = ending.clock; runs = ending.runs; cells = ending.value ∷ [] })

@@ -1,0 +1,4 @@
+pub mod Derivations
+pub mod Rows
+pub mod Sums
+pub mod Tree
