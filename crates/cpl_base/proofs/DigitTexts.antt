@@ -60,6 +60,7 @@ list_all-from_AllDigits (c ∷ cs) all =
     let digit : is_digit c ≡ true = and_from (leb 48 c) (leb c 57) (le-leb 48 c range.0) (le-leb c 57 range.1) in
     and_from (is_digit c) (list_all is_digit cs) digit (list_all-from_AllDigits cs all.1)
 
+-- the same, of one digit or more
 pub are_digits-numeral : (digits : List ℕ) → IsNumeral 10 digits → are_digits digits ≡ true
 are_digits-numeral digits n =
     sym (are_digits-nonempty digits n.0) ∙ list_all-from_AllDigits digits n.1
@@ -119,6 +120,7 @@ length_of_million n small =
       | inr seven ↦ omega arith
     ]
 
+-- `six_digits` gives six digits of the number
 pub six_digits-of : (n : ℕ) → n < 1000000 → IsSixDigits n (six_digits n)
 six_digits-of n small =
     let numeral = decimal_is_IsNumeral_wide (1000000 + n) (omega arith) in

@@ -44,6 +44,7 @@ parts_of-spelled units (Some places) all = rw (cut_at-point units places all) re
 read_parts-digits : (minus : Bool) (units : List ℕ) (places : Option (List ℕ)) → are_digits units ≡ true → are_places places ≡ true → read_parts minus (units, places) ≡ judged minus units (behind places)
 read_parts-digits minus units places u p = rw (u, p) refl
 
+-- a text that is spelled from its parts is judged by them
 value_of-spelled : (minus : Bool) (units : List ℕ) (places : Option (List ℕ)) → are_digits units ≡ true → are_places places ≡ true → value_of (sign minus ++ units ++ fraction places) ≡ judged minus units (behind places)
 unfolding value_of
 value_of-spelled minus [] places u p = absurd (false≢true u)
@@ -73,10 +74,12 @@ signed_part-joined (c ∷ cs) =
 abbrev IsCut : ℕ → List ℕ → Option (List ℕ × List ℕ) → Type 0
 IsCut at text o = IfSome o (λ h. text ≡ h.0 ++ at ∷ h.1)
 
+-- one more byte in front
 onto_front-cut : (at c : ℕ) (cs : List ℕ) (o : Option (List ℕ × List ℕ)) → IsCut at cs o → IsCut at (c ∷ cs) (onto_front c o)
 onto_front-cut at c cs None cut = tt
 onto_front-cut at c cs (Some h) cut = ap (λ (xs : List ℕ). c ∷ xs) cut
 
+-- the two halves of a cut, with the byte between them, are the text
 cut_at-cut : (at : ℕ) (text : List ℕ) → IsCut at text (cut_at at text)
 cut_at-cut at [] = tt
 cut_at-cut at (c ∷ cs) =
@@ -85,6 +88,7 @@ cut_at-cut at (c ∷ cs) =
       | inr e ↦ rw e (onto_front-cut at c cs (cut_at at cs) (cut_at-cut at cs))
     ]
 
+-- the digits and the fraction are the text
 parts_of-joined : (text : List ℕ) (o : Option (List ℕ × List ℕ)) → IsCut 46 text o → text ≡ (parts_of text o).0 ++ fraction (parts_of text o).1
 parts_of-joined text None cut = sym (append-nil text)
 parts_of-joined text (Some h) cut = cut
@@ -110,11 +114,13 @@ numeral_or_none text =
 
 -- ---- what is read is a value
 
+-- a sign leaves the size as it is
 unsigned_abs-signed : (minus : Bool) (m : ℕ) → unsigned_abs (signed minus m) ≡ m
 unsigned_abs-signed true zero = refl
 unsigned_abs-signed true (suc m) = refl
 unsigned_abs-signed false m = refl
 
+-- what is in the range is a value
 ranged-within : (minus : Bool) (m : ℕ) → IfOk (ranged minus m) IsValue
 ranged-within minus m =
     elim (cases_Bool (leb m greatest)) [
@@ -122,6 +128,7 @@ ranged-within minus m =
       | inr e ↦ rw e tt
     ]
 
+-- what is judged to be a number is a value
 judged-within : (minus : Bool) (units places : List ℕ) → IfOk (judged minus units places) IsValue
 judged-within minus units places =
     elim (cases_Bool (leb (length places) 6)) [
@@ -144,6 +151,7 @@ unsigned_abs-below : (z : ℤ) → FitsSigned w128 z → unsigned_abs z < 10 ^ 6
 unsigned_abs-below (pos n) fits = omega (arith, fits.sfits)
 unsigned_abs-below (negsuc n) fits = omega (arith, fits.sfits)
 
+-- a number is its sign and its size
 signed-unsigned_abs : (z : ℤ) → signed (is_negative z) (unsigned_abs z) ≡ z
 signed-unsigned_abs (pos n) = rw (le-ltb n 0 (omega arith)) refl
 signed-unsigned_abs (negsuc n) = refl

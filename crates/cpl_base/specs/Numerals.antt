@@ -74,6 +74,7 @@ judged minus units places = if nat_le (length places) 6 then ranged minus (milli
 
 -- ---- reading, as a function of the text
 
+-- one more byte in front of the first half
 abbrev pub onto_front : ℕ → Option (List ℕ × List ℕ) → Option (List ℕ × List ℕ)
 onto_front c None = None
 onto_front c (Some h) = Some (c ∷ h.0, h.1)
@@ -93,6 +94,7 @@ abbrev pub parts_of : List ℕ → Option (List ℕ × List ℕ) → List ℕ ×
 parts_of text None = (text, None)
 parts_of text (Some h) = (h.0, Some h.1)
 
+-- what a sign and the parts behind it denote
 abbrev pub read_parts : Bool → List ℕ × Option (List ℕ) → Result ℤ ValFault
 read_parts minus p = if are_digits p.0 && are_places p.1 then judged minus p.0 (behind p.1) else Err Digits
 

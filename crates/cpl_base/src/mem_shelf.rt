@@ -18,12 +18,13 @@ pub struct MemShelf {
 }
 
 impl MemShelf {
-    ghost use Rattle.cpl_base.specs.InMemory.{held_at, failing_load};
+    ghost use Rattle.cpl_base.specs.InMemory.{held_at, failing_load, loads_of};
 
     /// A shelf without files.
     pub fn new(alloc: Global) -> MemShelf
         ensures empty { (name : List ℕ) → held_at result name ≡ None }
         ensures sound { failing_load result ≡ None }
+        ensures number { loads_of result ≡ 0 }
     {
         MemShelf {
             alloc,
@@ -40,6 +41,7 @@ impl MemShelf {
         ensures others { (other : List ℕ) → other ≢ name.now → held_at self.new other ≡ held_at self.old other }
         ensures err { OnErr result ((other : List ℕ) → held_at self.new other ≡ held_at self.old other) }
         ensures failing { failing_load self.new ≡ failing_load self.old }
+        ensures number { loads_of self.new ≡ loads_of self.old }
     {
         let name = String::from_str(self.alloc, name)?;
         let bytes = Vec::from_slice(self.alloc, bytes)?;
@@ -51,14 +53,15 @@ impl MemShelf {
     pub fn fail_on(&mut self, call: u64)
         ensures failing { failing_load self.new ≡ Some call }
         ensures held { (name : List ℕ) → held_at self.new name ≡ held_at self.old name }
+        ensures number { loads_of self.new ≡ loads_of self.old }
     {
         self.failing = Some(call);
     }
 }
 
 impl Shelf for MemShelf {
-    ghost use Rattle.std.specs.Prelude.{◌≡◌, ◌⊎◌, ◌≤◌, length, Some, None, IfOk, IfSome, IsErrOf};
-    ghost use Rattle.cpl_base.specs.InMemory.{held_at, failing_load};
+    ghost use Rattle.std.specs.Prelude.{◌≡◌, ◌≢◌, ◌⊎◌, ◌+◌, ◌^◌, ◌<◌, ◌≤◌, length, Some, None, IfOk, IfSome, IsErrOf};
+    ghost use Rattle.cpl_base.specs.InMemory.{Answers, held_at, failing_load, loads_of};
     ghost use Rattle.cpl_base.specs.Loading.{IsLoaded, IsMissing, IsLonger};
     ghost use Rattle.cpl_base.specs.Outside.{Rises};
 
@@ -73,6 +76,13 @@ impl Shelf for MemShelf {
         ensures loaded { IfOk result (λ bytes. (length bytes.items ≤ limit) × IfSome (Some (held_at self.old)) (IsLoaded name.now bytes.items)) }
         ensures failed { IsErrOf result LoadFault.Failed → Rises self.old.faults self.new.faults ⊎ IsMissing name.now (Some (held_at self.old)) }
         ensures too_long { IsErrOf result LoadFault.TooLong → IfSome (Some (held_at self.old)) (IsLonger name.now limit) }
+
+        // The load that is to fail does so, and its count rises.
+        ensures fails { failing_load self.old ≡ Some (loads_of self.old) → IsErrOf result LoadFault.Failed × Rises self.old.faults self.new.faults }
+
+        // Any other answers by what the name holds, and the count stays.
+        ensures answers { failing_load self.old ≢ Some (loads_of self.old) → Answers (held_at self.old name.now) limit result × (self.new.faults ≡ self.old.faults) }
+        ensures number { loads_of self.old + 1 < 2 ^ 64 → loads_of self.new ≡ loads_of self.old + 1 }
 
         // Without a load that is to fail, the count stays.
         ensures sound { failing_load self.old ≡ None → (self.new.faults ≡ self.old.faults) × (failing_load self.new ≡ None) }

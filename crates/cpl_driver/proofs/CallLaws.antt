@@ -103,6 +103,7 @@ file_whole name told before after reply (loaded bytes read fits same is) = λ fa
 file_whole name told before after reply (longer over same is) = λ fault. cc (ap (λ r. r.status) is)
 file_whole name told before after reply (not_loaded why counts is) = λ fault. cc (ap (λ r. r.status) is)
 
+-- the same of the reply to the words
 whole : (words : List (List ℕ)) (told : Option Files) (before after : ℕ) (reply : Reply) → IsReply words told before after reply → reply.status ≢ status.WriteFault
 whole words told before after reply (wrong_words none same is) = λ fault. cc (ap (λ r. r.status) is)
 whole words told before after reply (of_file name names cause) = file_whole name told before after reply cause
@@ -128,6 +129,7 @@ no_fault wanted given text out err delivery quiet silent =
       | inr p ↦ absurd (cut_rises (goes_out wanted) text out err quiet silent p.1)
     ]
 
+-- a reply with its cause, delivered without a fault, is the answer
 pub serial_of : (call : Call) → IsDone call → IsSerial call
 serial_of call done files out err tells told_out told_err stays quiet silent lasted =
     let reply = done.0 in
@@ -146,6 +148,7 @@ serial_of call done files out err tells told_out told_err stays quiet silent las
 
 -- ---- what brings each status
 
+-- Ok: the file was read
 ok_cause : (words : List (List ℕ)) (told : Option Files) (before after : ℕ) (reply : Reply) → IsReply words told before after reply → reply.status ≡ status.Ok → (name bytes : List ℕ) × (file_to_run words ≡ Some name) × IfSome told (IsLoaded name bytes) × (reply ≡ reply_for (system_of bytes)) × (after ≡ before)
 ok_cause words told before after reply (wrong_words none same is) ok = cc (ap (λ r. r.status) is)
 ok_cause words told before after reply (of_file name names (loaded bytes read fits same is)) ok = (name, bytes, names, read, is, same)
@@ -153,6 +156,7 @@ ok_cause words told before after reply (of_file name names (longer over same is)
 ok_cause words told before after reply (of_file name names (not_loaded why counts is)) ok = cc (ap (λ r. r.status) is)
 ok_cause words told before after reply (no_memory name names counts is) ok = cc (ap (λ r. r.status) is)
 
+-- Usage: the words are no command
 usage_cause : (words : List (List ℕ)) (told : Option Files) (before after : ℕ) (reply : Reply) → IsReply words told before after reply → reply.status ≡ status.Usage → file_to_run words ≡ None
 usage_cause words told before after reply (wrong_words none same is) of_usage = none
 usage_cause words told before after reply (of_file name names (loaded bytes read fits same is)) of_usage =
@@ -161,11 +165,13 @@ usage_cause words told before after reply (of_file name names (longer over same 
 usage_cause words told before after reply (of_file name names (not_loaded why counts is)) of_usage = cc (ap (λ r. r.status) is)
 usage_cause words told before after reply (no_memory name names counts is) of_usage = cc (ap (λ r. r.status) is)
 
+-- and where they are none, the reply is Usage
 none_cause : (words : List (List ℕ)) (told : Option Files) (before after : ℕ) (reply : Reply) → IsReply words told before after reply → file_to_run words ≡ None → reply.status ≡ status.Usage
 none_cause words told before after reply (wrong_words none same is) no_file = ap (λ r. r.status) is
 none_cause words told before after reply (of_file name names cause) no_file = cc
 none_cause words told before after reply (no_memory name names counts is) no_file = cc
 
+-- Refused: no load failed
 quiet_cause : (words : List (List ℕ)) (told : Option Files) (before after : ℕ) (reply : Reply) → IsReply words told before after reply → reply.status ≡ status.Refused → after ≡ before
 quiet_cause words told before after reply (wrong_words none same is) refused = same
 quiet_cause words told before after reply (of_file name names (loaded bytes read fits same is)) refused = same
@@ -173,6 +179,7 @@ quiet_cause words told before after reply (of_file name names (longer over same 
 quiet_cause words told before after reply (of_file name names (not_loaded why counts is)) refused = cc (ap (λ r. r.status) is)
 quiet_cause words told before after reply (no_memory name names counts is) refused = cc (ap (λ r. r.status) is)
 
+-- and the answer is a refusal
 refused_cause : (words : List (List ℕ)) (told : Option Files) (files : Files) (before after : ℕ) (reply : Reply) → told ≡ Some files → IsReply words told before after reply → reply.status ≡ status.Refused → (answer words files).status ≡ status.Refused
 refused_cause words told files before after reply tells cause refused =
     elim (told_of words told files before after reply tells cause) [
@@ -181,6 +188,7 @@ refused_cause words told files before after reply tells cause refused =
       | inr (inr memory) ↦ cc (ap (λ r. r.status) memory)
     ]
 
+-- ReadFault: the load of the named file failed
 read_fault_cause : (words : List (List ℕ)) (told : Option Files) (before after : ℕ) (reply : Reply) → IsReply words told before after reply → reply.status ≡ status.ReadFault → (name : List ℕ) × (file_to_run words ≡ Some name) × (Rises before after ⊎ IsMissing name told) × (reply ≡ unread name)
 read_fault_cause words told before after reply (wrong_words none same is) fault = cc (ap (λ r. r.status) is)
 read_fault_cause words told before after reply (of_file name names (loaded bytes read fits same is)) fault =
@@ -189,6 +197,7 @@ read_fault_cause words told before after reply (of_file name names (longer over 
 read_fault_cause words told before after reply (of_file name names (not_loaded why counts is)) fault = (name, names, why, is)
 read_fault_cause words told before after reply (no_memory name names counts is) fault = cc (ap (λ r. r.status) is)
 
+-- where the count of the shelf is greater at the end, a load failed
 rise_cause : (words : List (List ℕ)) (told : Option Files) (before after : ℕ) (reply : Reply) → IsReply words told before after reply → before < after → (reply.status ≡ status.ReadFault) ⊎ (reply.status ≡ status.Memory)
 rise_cause words told before after reply (wrong_words none same is) more = absurd (omega arith)
 rise_cause words told before after reply (of_file name names (loaded bytes read fits same is)) more = absurd (omega arith)
@@ -196,6 +205,7 @@ rise_cause words told before after reply (of_file name names (longer over same i
 rise_cause words told before after reply (of_file name names (not_loaded why counts is)) more = inl (ap (λ r. r.status) is)
 rise_cause words told before after reply (no_memory name names counts is) more = inr (ap (λ r. r.status) is)
 
+-- Memory: there is no text
 memory_cause : (words : List (List ℕ)) (told : Option Files) (before after : ℕ) (reply : Reply) → IsReply words told before after reply → reply.status ≡ status.Memory → reply.text ≡ []
 memory_cause words told before after reply (wrong_words none same is) memory = cc (ap (λ r. r.status) is)
 memory_cause words told before after reply (of_file name names (loaded bytes read fits same is)) memory =
@@ -245,6 +255,7 @@ cut_told words told files before after reply stream tells cause cut =
       | inr (inr memory) ↦ let none : length reply.text ≡ 0 = ap (λ r. length r.text) memory in absurd (omega (arith, cut.proper))
     ]
 
+-- the causes of every status
 pub causes_of : (call : Call) → IsDone call → HasCauses call
 causes_of call done =
     let reply = done.0 in

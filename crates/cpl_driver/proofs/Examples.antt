@@ -12,10 +12,12 @@ use Rattle.cpl_driver.specs.Rows.{counted, counting, counting_end, counting_syst
 use Rattle.cpl_driver.specs.Runs.{operations, ruled, serial}
 use Rattle.cpl_driver.specs.declared.status.Status.TheVariants as status
 
+-- what the files describe
 pub counting_is : system_of counting ≡ Some counting_system
 unfolding system_of system_in lines_of line variable_of rule_of loop_of loop_in parsed_of atoms_of atom_of number_of digits
 counting_is = refl
 
+-- and the other
 pub doubling_is : system_of doubling ≡ Some doubling_system
 unfolding system_of system_in lines_of line variable_of rule_of loop_of loop_in parsed_of atoms_of atom_of number_of digits
 doubling_is = refl
@@ -24,13 +26,16 @@ doubling_is = refl
 counts_on : (x : ℤ) → ruled counting_system x ≡ clip (x +ℤ pos 1000000)
 counts_on x = simp (fold-roll-Formula ℤ (value_step (x ∷ [])))
 
+-- and the other
 doubles_on : (x : ℤ) → ruled doubling_system x ≡ clip (clip (x +ℤ x) +ℤ pos 250000)
 doubles_on x = simp (fold-roll-Formula ℤ (value_step (x ∷ [])))
 
+-- what the runs leave
 pub counting_ends : serial counting_system ≡ counting_end
 unfolding serial
 counting_ends = rw (counts_on (pos 0), counts_on (pos 1000000), counts_on (pos 2000000)) refl
 
+-- and the other
 pub doubling_ends : serial doubling_system ≡ doubling_end
 unfolding serial
 doubling_ends = rw (doubles_on (pos 500000), doubles_on (pos 1250000)) refl
@@ -42,6 +47,7 @@ counting_said =
     ap reply_for counting_is
     ∙ ap (λ end. let said : Reply = record { status = status.Ok; text = report counting_system (length (operations counting_system)) end } in said) counting_ends
 
+-- and the other
 pub doubling_said : run_of doubling ≡ record { status = status.Ok; text = doubled }
 unfolding answer report written digits
 doubling_said =

@@ -26,18 +26,23 @@ file_to_run (command ∷ file ∷ other ∷ more) = None
 
 -- ---- texts
 
+-- each line that is written ends in a line feed
 abbrev pub end_of_line : List ℕ
 end_of_line = 10 ∷ []
 
+-- the line on words that are no command
 abbrev pub usage_line : List ℕ
 usage_line = codes "usage: esmcouple run CONF [--workers N] [--trace] | serial CONF [--trace] | check CONF | plan CONF | demo SEED [--workers N]" ++ end_of_line
 
+-- the line on a file that could not be read
 abbrev pub read_fault_line : List ℕ → List ℕ
 read_fault_line name = codes "read fault " ++ name ++ end_of_line
 
+-- the refusal of a file that is too long
 abbrev pub too_long_line : List ℕ → List ℕ
 too_long_line name = codes "refused 1 TooLong " ++ name ++ end_of_line
 
+-- the refusal of a file whose form is not built yet
 abbrev pub not_yet_built_line : List ℕ
 not_yet_built_line = codes "refused 62 NotYetBuilt 1" ++ end_of_line
 
@@ -46,20 +51,25 @@ abbrev pub least : List ℤ → ℤ
 least [] = pos 0
 least (x ∷ xs) = fold int_min x xs
 
+-- the greatest of the values
 abbrev pub most : List ℤ → ℤ
 most [] = pos 0
 most (x ∷ xs) = fold int_max x xs
 
+-- their sum, which is exact
 abbrev pub sum : List ℤ → ℤ
 sum [] = pos 0
 sum (x ∷ xs) = fold ◌+ℤ◌ x xs
 
+-- how many operations there were
 abbrev pub operations_line : ℕ → List ℕ
 operations_line count = codes "operations " ++ decimal count ++ end_of_line
 
+-- how often a component ran, and its clock
 abbrev pub component_line : List ℕ → ℕ → ℕ → List ℕ
 component_line name runs clock = codes "component " ++ name ++ codes " runs " ++ decimal runs ++ codes " clock " ++ decimal clock ++ end_of_line
 
+-- the least, the greatest and the sum of a variable over its cells
 abbrev pub variable_line : List ℕ → List ℤ → List ℕ
 variable_line name cells =
     codes "var " ++ name ++ codes " min " ++ written (least cells) ++ codes " max " ++ written (most cells) ++ codes " sum " ++ written (sum cells) ++ end_of_line
@@ -82,12 +92,15 @@ pub record Reply : Type 0 where
 abbrev pub most_bytes : ℕ
 most_bytes = 4194304
 
+-- the reply to words that are no command
 abbrev pub usage : Reply
 usage = record { status = status.Usage; text = usage_line }
 
+-- the reply to a file that could not be read
 abbrev pub unread : List ℕ → Reply
 unread name = record { status = status.ReadFault; text = read_fault_line name }
 
+-- the reply to a file that is too long
 abbrev pub too_long : List ℕ → Reply
 too_long name = record { status = status.Refused; text = too_long_line name }
 
@@ -96,10 +109,12 @@ abbrev pub reply_for : Option System → Reply
 reply_for None = record { status = status.Refused; text = not_yet_built_line }
 reply_for (Some system) = record { status = status.Ok; text = report system (length (operations system)) (serial system) }
 
+-- the reply to a file of this name, with what it holds, if it is there
 abbrev pub reply_to : List ℕ → Option (List ℕ) → Reply
 reply_to name None = unread name
 reply_to name (Some bytes) = if nat_lt most_bytes (length bytes) then too_long name else reply_for (system_of bytes)
 
+-- the reply to a file to run, if the words name one
 abbrev pub reply_with : Files → Option (List ℕ) → Reply
 reply_with files None = usage
 reply_with files (Some name) = reply_to name (files name)

@@ -14,10 +14,11 @@ IsDone call =
     (reply : Reply) × IsReply call.words call.told call.faults_before call.faults_after reply
     × IsDelivery reply.status reply.text call.out call.err call.status
 
--- what a reply has for standard output, and for standard error
+-- what a reply has for standard output
 abbrev pub to_out : Reply → List ℕ
 to_out reply = if goes_out reply.status then reply.text else []
 
+-- what it has for standard error
 abbrev pub to_err : Reply → List ℕ
 to_err reply = if goes_out reply.status then [] else reply.text
 

@@ -15,6 +15,7 @@ pub record Stream : Type 0 where
   pub faults_before : ℕ
   pub faults_after : ℕ
 
+-- a stream, part by part
 abbrev pub stream : Option (List ℕ) → Option (List ℕ) → ℕ → ℕ → Stream
 stream before after faults_before faults_after = record { before = before; after = after; faults_before = faults_before; faults_after = faults_after }
 
@@ -28,6 +29,7 @@ pub record Call : Type 0 where
   pub err : Stream
   pub status : Status
 
+-- a call, part by part
 abbrev pub call : List (List ℕ) → Option Files → ℕ → ℕ → Stream → Stream → Status → Call
 call words told faults_before faults_after out err status = record { words = words; told = told; faults_before = faults_before; faults_after = faults_after; out = out; err = err; status = status }
 

@@ -36,6 +36,7 @@ component_of words = do
   _ ← when (is_name name)
   Some name
 
+-- whether the values of a grid are `1 1`
 abbrev pub is_one_by_one : Option (List (List ℕ)) → Bool
 is_one_by_one None = false
 is_one_by_one (Some []) = false

@@ -5,6 +5,7 @@ use Rattle.std.specs.List.{list_all, list_any}
 use Rattle.std.specs.Str.{bytes_eq}
 use Rattle.cpl_base.specs.Numerals.{is_digit, are_digits, number}
 
+-- an ASCII letter
 abbrev pub is_letter : ℕ → Bool
 is_letter c = (nat_le 65 c && nat_le c 90) || (nat_le 97 c && nat_le c 122)
 
@@ -23,6 +24,7 @@ behind [] text = Some text
 behind (c ∷ cs) [] = None
 behind (c ∷ cs) (d ∷ ds) = if c == d then behind cs ds else None
 
+-- whether a text begins so
 abbrev pub begins : List ℕ → List ℕ → Bool
 begins [] text = true
 begins (c ∷ cs) [] = false
@@ -58,6 +60,7 @@ abbrev pub with_first : List ℕ → List (List ℕ) → List (List ℕ)
 with_first [] words = words
 with_first (c ∷ cs) words = (c ∷ cs) ∷ words
 
+-- the values of a line whose first word goes on so behind its label
 abbrev pub values_behind : Option (List ℕ) → List (List ℕ) → Option (List (List ℕ))
 values_behind None words = None
 values_behind (Some first) words = Some (with_first first words)

@@ -2,5 +2,6 @@
 use Rattle.cpl_driver.specs.Answers as answers
 use Rattle.cpl_driver.specs.declared.couple.Reply.{Reply}
 
+-- the reply that the code keeps
 abbrev pub given : Reply → answers.Reply
 given reply = record { status = reply.status; text = reply.text.items }

@@ -15,13 +15,15 @@ use Rattle.cpl_driver.specs.declared.status.Status.TheVariants as status
 abbrev pub counting : List ℕ
 counting = codes "EARTH_component_list: A\nA_grid: 1 1\nA_vars::\nx = 0\n::\nA_phase_run::\nx = x + 1\n::\nrunSeq::\n@1:3\nA\n@\n::\n"
 
+-- its report
 abbrev pub counted : List ℕ
 counted = codes "operations 4\ncomponent A runs 3 clock 3\nvar x min 3.000000 max 3.000000 sum 3.000000\nend ok\n"
 
--- the same on two cells, and the same with its last table open
+-- the same on two cells
 abbrev pub on_two_cells : List ℕ
 on_two_cells = codes "EARTH_component_list: A\nA_grid: 2 1\nA_vars::\nx = 0\n::\nA_phase_run::\nx = x + 1\n::\nrunSeq::\n@1:3\nA\n@\n::\n"
 
+-- the same with its last table open
 abbrev pub left_open : List ℕ
 left_open = codes "EARTH_component_list: A\nA_grid: 1 1\nA_vars::\nx = 0\n::\nA_phase_run::\nx = x + 1\n::\nrunSeq::\n@1:3\nA\n@\n"
 
@@ -29,16 +31,19 @@ left_open = codes "EARTH_component_list: A\nA_grid: 1 1\nA_vars::\nx = 0\n::\nA_
 abbrev pub doubling : List ℕ
 doubling = codes "\n EARTH_component_list:Sea\nSea_grid:1  1\n\nSea_vars::\nheat = 0.5\n::\nSea_phase_run::\n heat = heat + heat+0.25\n::\nrunSeq::\n  @900:1800\n    Sea\n  @\n::"
 
+-- its report
 abbrev pub doubled : List ℕ
 doubled = codes "operations 3\ncomponent Sea runs 2 clock 1800\nvar heat min 2.750000 max 2.750000 sum 2.750000\nend ok\n"
 
--- the systems that the two describe
+-- a number, in millionths
 abbrev pub number : ℤ → Formula
 number z = roll-Formula (Number z)
 
+-- the variable
 abbrev pub variable : Formula
 variable = roll-Formula (Input 0)
 
+-- a sum
 abbrev pub plus : Formula → Formula → Formula
 plus a b = roll-Formula (Plus a b)
 
@@ -46,9 +51,11 @@ plus a b = roll-Formula (Plus a b)
 abbrev pub rule : Formula → Parsed
 rule tree = record { tree = tree; reads = record { name = Field 0; dx = pos 0; dy = pos 0 } ∷ [] }
 
+-- the systems that the two describe
 abbrev pub counting_system : System
 counting_system = record { component = codes "A"; field = codes "x"; start = pos 0; rule = rule (plus variable (number (pos 1000000))); sequence = record { step = 1; duration = 3 } }
 
+-- and the other
 abbrev pub doubling_system : System
 doubling_system = record { component = codes "Sea"; field = codes "heat"; start = pos 500000; rule = rule (plus (plus variable variable) (number (pos 250000))); sequence = record { step = 900; duration = 1800 } }
 
@@ -56,6 +63,7 @@ doubling_system = record { component = codes "Sea"; field = codes "heat"; start 
 abbrev pub counting_end : World
 counting_end = record { clock = 3; runs = 3; cells = pos 3000000 ∷ [] }
 
+-- and the other
 abbrev pub doubling_end : World
 doubling_end = record { clock = 1800; runs = 2; cells = pos 2750000 ∷ [] }
 
@@ -67,6 +75,7 @@ holding bytes name = Some bytes
 abbrev pub run_of : List ℕ → Reply
 run_of bytes = answer (codes "run" ∷ codes "f" ∷ []) (holding bytes)
 
+-- the refusal of a form that is not built yet
 abbrev pub refused : Reply
 refused = record { status = status.Refused; text = not_yet_built_line }
 

@@ -12,6 +12,7 @@ use Rattle.cpl_formula.specs.declared.formula.ReadName.TheVariants.{Field}
 abbrev pub at_x : List ℕ → Option Parsed
 at_x = parsed_of (codes "x" ∷ [])
 
+-- the same over the fields x and y
 abbrev pub at_xy : List ℕ → Option Parsed
 at_xy = parsed_of (codes "x" ∷ codes "y" ∷ [])
 
@@ -24,9 +25,11 @@ sum_of_x (suc n) = codes "x+" ++ sum_of_x n
 abbrev pub number : ℤ → Formula
 number z = roll-Formula (Number z)
 
+-- an input, by its place
 abbrev pub input : ℕ → Formula
 input k = roll-Formula (Input k)
 
+-- a sum
 abbrev pub plus : Formula → Formula → Formula
 plus a b = roll-Formula (Plus a b)
 
