@@ -1,7 +1,7 @@
 -- Where a text is cut.
-use Rattle.std.proofs.Common.{◌≡◌, ℕ, ◌+◌, ◌<◌, Bool, true, false, cond, eqb, List, [], ◌∷◌, ◌++◌, length, get_or, take, drop, Option, Some, None, refl, ap, ◌∙◌, arith, add-one, zero, suc}
+use Rattle.std.proofs.Common.{◌≡◌, ℕ, ◌<◌, false, eqb, List, [], ◌∷◌, length, get_or, take, drop, Some, None, refl, arith, zero, suc}
 use Rattle.std.proofs.lemmas.Bool.{eq-eqb, ne_eqb}
-use Rattle.cpl_base.specs.Numerals.{cut_at, onto_front}
+use Rattle.cpl_base.specs.Numerals.{cut_at}
 
 -- the first such byte is the one at the place k
 pub cut_at-found : (at : ℕ) (text : List ℕ) (k : ℕ) → ((j : ℕ) → j < k → get_or text j 0 ≡ at → ⊥) → k < length text → get_or text k 0 ≡ at → cut_at at text ≡ Some (take k text, drop (suc k) text)

@@ -1,5 +1,5 @@
 -- What numerals are read as and written as.
-use Rattle.std.proofs.Common.{◌≡◌, ℕ, ◌+◌, ◌-◌, ◌*◌, ◌/◌, ◌%◌, ◌^◌, ◌<◌, ◌≤◌, ◌⊎◌, inl, inr, Bool, true, false, cond, eqb, leb, ◌&&◌, List, [], ◌∷◌, ◌++◌, length, get_or, drop, Option, Some, None, Result, Ok, Err, ℤ, pos, negsuc, neg_ℤ, unsigned_abs, decimal, refl, sym, ap, ◌∙◌, arith, zero, suc, append_assoc, IfSome, IfOk, FitsSigned}
+use Rattle.std.proofs.Common.{◌≡◌, ℕ, ◌/◌, ◌%◌, ◌^◌, ◌<◌, ◌≤◌, ◌⊎◌, inl, inr, Bool, true, false, eqb, leb, ◌&&◌, List, [], ◌∷◌, ◌++◌, length, Option, Some, None, Ok, Err, ℤ, pos, negsuc, unsigned_abs, decimal, refl, sym, ap, ◌∙◌, arith, zero, suc, append_assoc, IfSome, IfOk, FitsSigned}
 use Rattle.std.proofs.lemmas.Fmt.{decimal_is_IsNumeral_wide}
 use Rattle.cpl_base.proofs.DigitTexts.{are_digits-numeral, decimal-lean, six_digits-of}
 use Rattle.std.proofs.lemmas.Bool.{and_parts, cases_Bool, leb-true, le-leb, le-ltb, ne_eqb, eqb-true, false≢true}
@@ -8,7 +8,6 @@ use Rattle.std.specs.Int.{is_negative, w128}
 use Rattle.std.specs.List.{list_all}
 use Rattle.cpl_base.specs.Numbers.{IsValue, greatest, million}
 use Rattle.cpl_base.specs.Numerals.{Numeral, Writes, are_digits, are_places, behind, cut_at, fraction, is_digit, judged, millionths, onto_front, parts_of, ranged, read_parts, sign, signed, signed_part, six_digits, value_of, written}
-use Rattle.cpl_base.specs.declared.value.ValFault.{ValFault}
 use Rattle.cpl_base.specs.declared.value.ValFault.TheVariants.{Digits}
 
 -- ---- a numeral is read as what it denotes

@@ -1,5 +1,5 @@
 -- Steps of a definition that may have no answer: what `?` is in code.
-use Rattle.std.specs.Prelude.{Bool, true, false, List, [], ◌∷◌, Option, Some, None, Result, Ok, Err, option_and_then}
+use Rattle.std.specs.Prelude.{Bool, true, false, List, [], ◌∷◌, Option, Some, None, option_and_then}
 
 -- goes on with the value, if there is one
 infixl 10 ◌>>=◌

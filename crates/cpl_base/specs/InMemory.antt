@@ -20,6 +20,10 @@ failing_load shelf = shelf.failing
 abbrev pub loads_of : MemShelf → ℕ
 loads_of shelf = shelf.loads
 
+-- how many faults it had
+abbrev pub faults_of : MemShelf → ℕ
+faults_of shelf = shelf.faults
+
 -- What a load answers that isn't to fail: by what the name holds, unless memory ran out.
 abbrev pub Answers : Option (List ℕ) → ℕ → Result (Vec ℕ Global) LoadFault → Type 0
 Answers held limit (Ok bytes) = (held ≡ Some bytes.items) × (length bytes.items ≤ limit)

@@ -1,5 +1,5 @@
 -- The numbers of a coupled run: whole millionths within a range.
-use Rattle.std.specs.Prelude.{ℕ, ℤ, pos, neg_ℤ, ◌≤◌, ◌^◌, unsigned_abs}
+use Rattle.std.specs.Prelude.{ℕ, ℤ, pos, neg_ℤ, ◌≤◌, unsigned_abs}
 use Rattle.std.specs.Int.{int_min, int_max}
 
 -- a unit has so many millionths

@@ -1,5 +1,5 @@
 -- What contracts see of files and streams: what they tell, and how many faults they had.
-use Rattle.std.specs.Prelude.{◌≡◌, ℕ, ◌+◌, ◌^◌, ◌<◌, ◌≤◌, ◌⊎◌, List, ◌++◌, Option, option_map, Some}
+use Rattle.std.specs.Prelude.{◌≡◌, ℕ, ◌+◌, ◌^◌, ◌<◌, ◌≤◌, ◌⊎◌, List, ◌++◌, Option, option_map}
 
 -- A count of faults rose in a call: it is greater at the end, or it stands at the end of its type.
 abbrev pub Rises : ℕ → ℕ → Type 0

@@ -1,5 +1,5 @@
 -- How a text is cut into words.
-use Rattle.std.specs.Prelude.{ℕ, Bool, false, true, not, ◌||◌, ◌==◌, List, [], ◌∷◌, filter}
+use Rattle.std.specs.Prelude.{ℕ, Bool, false, true, ◌||◌, ◌==◌, List, [], ◌∷◌, filter}
 use Rattle.std.specs.List.{slice_split}
 
 -- a space or a tab

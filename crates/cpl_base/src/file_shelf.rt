@@ -19,7 +19,7 @@ pub struct FileShelf<R: Files> {
 impl<R: Files> FileShelf<R> {
     /// The files that the runtime reaches.
     pub fn new(system: R) -> FileShelf<R>
-        ensures { result ≡ record { system = system; faults = 0 } }
+        ensures { ⟦<FileShelf<R> as Shelf>⟧.faults result ≡ 0 }
     {
         FileShelf { system, faults: 0 }
     }

@@ -18,13 +18,14 @@ pub struct MemShelf {
 }
 
 impl MemShelf {
-    ghost use Rattle.cpl_base.specs.InMemory.{held_at, failing_load, loads_of};
+    ghost use Rattle.cpl_base.specs.InMemory.{held_at, failing_load, faults_of, loads_of};
 
     /// A shelf without files.
     pub fn new(alloc: Global) -> MemShelf
         ensures empty { (name : List ℕ) → held_at result name ≡ None }
         ensures sound { failing_load result ≡ None }
         ensures number { loads_of result ≡ 0 }
+        ensures faults { faults_of result ≡ 0 }
     {
         MemShelf {
             alloc,
@@ -42,6 +43,7 @@ impl MemShelf {
         ensures err { OnErr result ((other : List ℕ) → held_at self.new other ≡ held_at self.old other) }
         ensures failing { failing_load self.new ≡ failing_load self.old }
         ensures number { loads_of self.new ≡ loads_of self.old }
+        ensures faults { faults_of self.new ≡ faults_of self.old }
     {
         let name = String::from_str(self.alloc, name)?;
         let bytes = Vec::from_slice(self.alloc, bytes)?;
@@ -54,6 +56,7 @@ impl MemShelf {
         ensures failing { failing_load self.new ≡ Some call }
         ensures held { (name : List ℕ) → held_at self.new name ≡ held_at self.old name }
         ensures number { loads_of self.new ≡ loads_of self.old }
+        ensures faults { faults_of self.new ≡ faults_of self.old }
     {
         self.failing = Some(call);
     }

@@ -15,7 +15,7 @@ pub struct StdSink<W: Write> {
 impl<W: Write> StdSink<W> {
     /// A sink over a stream, as the runtime's `stdout()` or `stderr()`.
     pub fn new(stream: W) -> StdSink<W>
-        ensures { result ≡ record { stream = stream; faults = 0 } }
+        ensures { ⟦<StdSink<W> as Sink>⟧.faults result ≡ 0 }
     {
         StdSink { stream, faults: 0 }
     }

@@ -1,12 +1,12 @@
 -- What follows of a call from a reply with its cause, and from how it was delivered.
-use Rattle.std.proofs.Common.{◌≡◌, ◌≢◌, ℕ, ◌+◌, ◌^◌, ◌<◌, ◌≤◌, ◌⊎◌, inl, inr, Bool, true, false, cond, List, [], ◌∷◌, ◌++◌, length, take, Option, Some, None, IfSome, refl, sym, ap, ◌∙◌, arith}
+use Rattle.std.proofs.Common.{◌≡◌, ◌≢◌, ℕ, ◌<◌, ◌≤◌, ◌⊎◌, inl, inr, Bool, true, false, cond, List, [], length, Option, Some, None, IfSome, refl, sym, ap, ◌∙◌, arith}
 use Rattle.std.proofs.lemmas.Bool.{le-ltb, lt-ltb}
 use Rattle.std.proofs.lemmas.List.{append-nil}
 use Rattle.cpl_base.specs.Loading.{IsLoaded, IsLonger, IsMissing}
 use Rattle.cpl_base.specs.Outside.{Files, Rises, Stays, appended}
-use Rattle.cpl_driver.specs.Answers.{Reply, answer, file_to_run, most_bytes, read_fault_line, reply_for, reply_to, reply_with, too_long, unread, usage}
-use Rattle.cpl_driver.specs.Calls.{HasCauses, IsAnswer, IsDone, IsSerial, IsUnderFault, to_err, to_out}
-use Rattle.cpl_driver.specs.Causes.{Call, Delivered, Gets, IsCut, IsDelivery, IsFileReply, IsReply, IsUntouched, Stream, goes_out, longer, loaded, no_memory, not_loaded, of_file, out_of_memory, wrong_words}
+use Rattle.cpl_driver.specs.Answers.{Reply, answer, file_to_run, most_bytes, reply_for, reply_to, reply_with, too_long, unread, usage}
+use Rattle.cpl_driver.specs.Calls.{HasCauses, IsDone, IsSerial, IsUnderFault, to_err, to_out}
+use Rattle.cpl_driver.specs.Causes.{Call, Gets, IsCut, IsDelivery, IsFileReply, IsReply, IsUntouched, Stream, goes_out, longer, loaded, no_memory, not_loaded, of_file, out_of_memory, wrong_words}
 use Rattle.cpl_driver.specs.Files.{system_of}
 use Rattle.cpl_driver.specs.declared.system.System.{System}
 use Rattle.cpl_driver.specs.declared.status.Status.{Status}

@@ -1,10 +1,10 @@
 -- The examples, step by step: what a file describes, what its run leaves, and what is said of it.
-use Rattle.std.proofs.Common.{◌≡◌, ℤ, pos, ◌+ℤ◌, List, ℕ, [], ◌∷◌, length, Some, refl, ap, ◌∙◌}
+use Rattle.std.proofs.Common.{◌≡◌, ℤ, pos, ◌+ℤ◌, [], ◌∷◌, length, Some, refl, ap, ◌∙◌}
 use Rattle.std.specs.Fmt.{digits}
 use Rattle.cpl_base.specs.Numbers.{clip}
 use Rattle.cpl_base.specs.Numerals.{value_of as number_of, written}
 use Rattle.cpl_formula.specs.Sums.{atom_of, atoms_of, parsed_of}
-use Rattle.cpl_formula.specs.Tree.{value_of, value_step}
+use Rattle.cpl_formula.specs.Tree.{value_step}
 use Rattle.cpl_formula.specs.declared.formula.Formula.TheFolds.{fold-roll-Formula}
 use Rattle.cpl_driver.specs.Answers.{Reply, answer, reply_for, report}
 use Rattle.cpl_driver.specs.Files.{line, lines_of, loop_in, loop_of, rule_of, system_in, system_of, variable_of}

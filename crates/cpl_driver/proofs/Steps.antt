@@ -1,6 +1,6 @@
 -- The operations so far, and one more.
 use Rattle.std.proofs.Common.{◌≡◌, ℕ, ℤ, ◌+◌, ◌*◌, ◌/◌, ◌<◌, ◌≤◌, List, [], ◌∷◌, ◌++◌, map, length, replicate, refl, sym, ap, ◌∙◌, zero-add, arith}
-use Rattle.std.specs.List.{range_with_len, fold}
+use Rattle.std.specs.List.{range_with_len}
 use Rattle.std.proofs.lemmas.List.{map_push, length-map}
 use Rattle.std.proofs.lemmas.List.FromFn.{map-range_with_len_more, length-range_with_len}
 use Rattle.std.proofs.lemmas.List.Sums.{fold_push}
@@ -9,7 +9,7 @@ use Rattle.cpl_formula.specs.Tree.{value_of}
 use Rattle.std.proofs.lemmas.Nat.{div-add-mod'}
 use Rattle.std.proofs.Math.Nat.{mul-le-mul_right}
 use Rattle.cpl_driver.specs.Endings.{IsEnding}
-use Rattle.cpl_driver.specs.Runs.{Operation, initialise, run_at, World, first_world, apply, after, operations, ruled, serial}
+use Rattle.cpl_driver.specs.Runs.{Operation, initialise, run_at, first_world, apply, after, operations, ruled, serial}
 use Rattle.cpl_driver.specs.declared.system.System.{System}
 
 -- the initialisation and the first n runs

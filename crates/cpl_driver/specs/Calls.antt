@@ -1,11 +1,10 @@
 -- What a call of the coupler promises.
-use Rattle.std.specs.Prelude.{◌≡◌, ◌≢◌, ℕ, ◌<◌, ◌≤◌, ◌⊎◌, Bool, if◌then◌else◌, List, [], ◌++◌, Option, Some, None, IfSome}
+use Rattle.std.specs.Prelude.{◌≡◌, ◌≢◌, ℕ, ◌<◌, ◌⊎◌, if◌then◌else◌, List, [], ◌++◌, Some, None, IfSome}
 use Rattle.cpl_base.specs.Loading.{IsLoaded, IsMissing}
 use Rattle.cpl_base.specs.Outside.{Files, Rises, Stays}
 use Rattle.cpl_driver.specs.Answers.{Reply, answer, file_to_run, read_fault_line, reply_for}
 use Rattle.cpl_driver.specs.Causes.{Call, Gets, IsCut, IsDelivery, IsReply, IsUntouched, goes_out}
 use Rattle.cpl_driver.specs.Files.{system_of}
-use Rattle.cpl_driver.specs.declared.status.Status.{Status}
 use Rattle.cpl_driver.specs.declared.status.Status.TheVariants as status
 
 -- There is a reply with its cause, and it was delivered or a write failed.

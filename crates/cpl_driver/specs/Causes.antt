@@ -1,9 +1,9 @@
 -- Why a command ends as it does: what replies there are and what brings each, and how a reply is
 -- delivered. Nothing here asks that the shelf or the streams tell what they hold.
-use Rattle.std.specs.Prelude.{◌≡◌, ◌≢◌, ℕ, ◌<◌, ◌≤◌, ◌⊎◌, Bool, true, false, if◌then◌else◌, List, [], ◌++◌, length, take, Option, Some, None, IfSome}
+use Rattle.std.specs.Prelude.{◌≡◌, ℕ, ◌<◌, ◌≤◌, ◌⊎◌, Bool, true, false, if◌then◌else◌, List, [], length, take, Option, Some, None, IfSome}
 use Rattle.cpl_base.specs.Loading.{IsLoaded, IsLonger, IsMissing}
-use Rattle.cpl_base.specs.Outside.{Files, Rises, Stays, appended}
-use Rattle.cpl_driver.specs.Answers.{Reply, answer, file_to_run, most_bytes, read_fault_line, reply_for, too_long, unread, usage}
+use Rattle.cpl_base.specs.Outside.{Files, Rises, appended}
+use Rattle.cpl_driver.specs.Answers.{Reply, file_to_run, most_bytes, reply_for, too_long, unread, usage}
 use Rattle.cpl_driver.specs.Files.{system_of}
 use Rattle.cpl_driver.specs.declared.status.Status.{Status}
 use Rattle.cpl_driver.specs.declared.status.Status.TheVariants as status

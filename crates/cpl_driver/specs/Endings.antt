@@ -1,7 +1,7 @@
 -- What a run leaves, against the serial reading.
 use Rattle.std.specs.Prelude.{◌≡◌, ℕ, List, [], ◌∷◌, length}
 use Rattle.cpl_driver.specs.Answers.{report}
-use Rattle.cpl_driver.specs.Runs.{World, operations, serial}
+use Rattle.cpl_driver.specs.Runs.{operations, serial}
 use Rattle.cpl_driver.specs.declared.running.Ending.{Ending}
 use Rattle.cpl_driver.specs.declared.system.System.{System}
 

@@ -1,11 +1,11 @@
 -- The definitions of a run, evaluated on examples.
-use Rattle.std.specs.Prelude.{◌≡◌, ℕ, ℤ, pos, List, [], ◌∷◌, ◌++◌, codes, Option, Some, None}
+use Rattle.std.specs.Prelude.{◌≡◌, ℕ, ℤ, pos, List, [], ◌∷◌, codes, Some, None}
 use Rattle.cpl_base.specs.Outside.{Files}
 use Rattle.cpl_formula.specs.declared.formula.Formula.{Formula, roll-Formula}
 use Rattle.cpl_formula.specs.declared.formula.Formula.TheOpen.{Number, Input, Plus}
 use Rattle.cpl_formula.specs.declared.formula.Parsed.{Parsed}
 use Rattle.cpl_formula.specs.declared.formula.ReadName.TheVariants.{Field}
-use Rattle.cpl_driver.specs.Answers.{Reply, answer, not_yet_built_line, read_fault_line, usage_line}
+use Rattle.cpl_driver.specs.Answers.{Reply, answer, not_yet_built_line, usage_line}
 use Rattle.cpl_driver.specs.Files.{system_of}
 use Rattle.cpl_driver.specs.Runs.{World, serial}
 use Rattle.cpl_driver.specs.declared.system.System.{System}

@@ -1,4 +1,4 @@
-use Rattle.std.proofs.Common.{◌≡◌, ◌-◌, ◌≤◌, length, take, drop}
+use Rattle.std.proofs.Common.{◌≡◌, ◌≤◌, length, take, drop}
 use Rattle.cpl_base.specs.Outside.{appended}
 use Rattle.cpl_base.proofs.Pieces.{done}
 use Rattle.cpl_base.proofs.sink.write_all.Given as goal
