@@ -1,15 +1,15 @@
 -- Lines that are kept as spans, and the lines of the text that they stand for.
-use Rattle.std.proofs.Common.{◌≡◌, ℕ, ◌+◌, ◌-◌, ◌<◌, ◌≤◌, Bool, true, false, cond, inl, inr, List, [], ◌∷◌, ◌++◌, length, get_or, take, map, filter, Option, Some, None, refl, sym, ap, ◌∙◌, arith, zero, suc, add-zero, zero-add, eqb, ltb, length-take}
+use Rattle.std.proofs.Common.{◌≡◌, ℕ, ◌+◌, ◌-◌, ◌<◌, ◌≤◌, Bool, true, false, cond, inl, inr, List, [], ◌∷◌, ◌++◌, length, get_or, take, map, filter, Option, Some, None, refl, sym, ap, ◌∙◌, arith, zero, suc, add-zero, zero-add, eqb, ltb, length-append, length-take, drop}
 use Rattle.std.proofs.lemmas.Bool.{cases_Bool, lt-ltb, le-ltb, ltb-false}
 use Rattle.std.proofs.lemmas.List.{append-nil, length-map, map-append, take_all}
 use Rattle.std.proofs.lemmas.List.Elements.{All-cons, All-filter, All-head, All-map, All-nil, All-tail, All-weaker, filter-append}
-use Rattle.std.specs.List.{All, before_first, list_all, position, position_or_len, slice_split}
+use Rattle.std.specs.List.{All, before_first, join_with_byte, list_all, position, position_or_len, slice_split}
 use Rattle.std.specs.Str.Lines.{strip_carriage_return}
 use Rattle.cpl_text.specs.declared.text_lines.Line.{Line}
 use Rattle.cpl_text.specs.declared.text_lines.Word.{Word}
 use Rattle.cpl_text.specs.Lines.{Part, TextLine, begins_comment, ends_line, faulty_line, first_faulty, has_words, is_allowed, is_blank, is_word, lines_of, line_at, looked_at, numbered, part_at, placed, words_at}
-use Rattle.cpl_text.specs.Spans.{IsLines, line_in, part_in, span_of}
-use Rattle.cpl_text.proofs.Places.{IsFront, Stands, front-take, moved, placed-moved, placed-push, room, stand-slice_split, stands-moved}
+use Rattle.cpl_text.specs.Spans.{IsLines, Stands, StandsIn, line_in, part_in, span_of}
+use Rattle.cpl_text.proofs.Places.{IsFront, front-take, moved, placed-moved, placed-push, room, room-slice_split, stand-slice_split, stands-moved}
 
 -- a line as its number and its spans
 abbrev pub spans : Line → ℕ × List Word
@@ -129,10 +129,6 @@ part_in-span text (p ∷ ps) all =
     ap (λ (t : List ℕ). record { start = p.start; «end» = p.«end»; text = t } ∷ map (part_in text) (map span_of ps)) here.text_is
     ∙ ap (λ (xs : List Part). p ∷ xs) (part_in-span text ps (All-tail (Stands text) p ps all))
 
--- all words of the line stand in the text
-pub record StandsIn (text : List ℕ) (line : TextLine) : Type 0 where
-  pub words_stand : All (Stands text) line.words
-
 -- where the spans are those of lines that stand in the text, they name these lines
 line_in-spans : (text : List ℕ) (lines : List Line) (wanted : List TextLine) → All (StandsIn text) wanted → map spans lines ≡ map spans_of wanted → map (line_in text) lines ≡ wanted
 line_in-spans text [] [] all same = refl
@@ -192,3 +188,66 @@ lines_from_spans text lines same sound =
       lines_are = line_in-spans text lines (filter has_words (numbered 1 (placed 0 (slice_split ends_line text)))) (All-filter has_words (StandsIn text) (numbered 1 (placed 0 (slice_split ends_line text))) all) same;
       sound = sound;
     }
+
+-- ---- what the words of a line are
+
+-- what holds of what a function makes of each member
+pub All-from_map : {A B : Type 0} (f : A → B) (P : B → Type 0) (xs : List A) → All P (map f xs) → All (λ x. P (f x)) xs
+All-from_map f P [] all = All-nil (λ x. P (f x))
+All-from_map f P (x ∷ xs) all =
+    All-cons (λ y. P (f y)) x xs (All-head P (f x) (map f xs) all) (All-from_map f P xs (All-tail P (f x) (map f xs) all))
+
+-- the words of the lines of a text stand in it
+pub lines_stand : (text : List ℕ) (lines : List Line) → IsLines text lines → All (λ line. StandsIn text (line_in text line)) lines
+unfolding lines_of
+lines_stand text lines is =
+    let all = numbered_stand text 1 (placed 0 (slice_split ends_line text)) (stand-slice_split ends_line text) in
+    let kept = All-filter has_words (StandsIn text) (numbered 1 (placed 0 (slice_split ends_line text))) all in
+    All-from_map (line_in text) (StandsIn text) lines (rw is.lines_are kept)
+
+-- words that are joined take less than their room
+joined-room : (words : List (List ℕ)) → length (join_with_byte 32 words) ≤ room words - 1
+joined-room [] = omega arith
+joined-room (w ∷ []) = omega arith
+joined-room (w ∷ v ∷ ws) = omega (arith, joined-room (v ∷ ws), length-append w (32 ∷ join_with_byte 32 (v ∷ ws)))
+
+-- the texts of the words of a line
+abbrev pub texts : TextLine → List (List ℕ)
+texts line = map (λ word. word.text) line.words
+
+-- the words alone take no more room than all parts
+room-words : (start : ℕ) (parts : List (List ℕ)) → room (map (λ word. word.text) (filter is_word (placed start parts))) ≤ room parts
+room-words start [] = omega arith
+room-words start (p ∷ ps) =
+    let rest = room-words (start + length p + 1) ps in
+    elim (cases_Bool (ltb 0 (length p))) [
+      | inl e ↦ rw e (omega (arith, rest))
+      | inr e ↦ rw e (omega (arith, rest))
+    ]
+
+-- The words of a line, joined by single blanks, are no longer than the text.
+pub record IsShortIn (text : List ℕ) (line : TextLine) : Type 0 where
+  pub short : length (join_with_byte 32 (texts line)) ≤ length text
+
+-- so short are the words of a line that stands in the text
+line_short : (text : List ℕ) (number : ℕ) (line : Part) → Stands text line → IsShortIn text (line_at number line.start line.text)
+line_short text number line outer =
+    let parts = slice_split is_blank (looked_at line.text) in
+    let room_is = room-slice_split is_blank (looked_at line.text) in
+    record {
+      short = omega (arith, joined-room (texts (line_at number line.start line.text)), room-words line.start parts, room_is, length-looked_at line.text, outer.within, ap length outer.text_is, length-take (line.«end» - line.start) (drop line.start text));
+    }
+
+-- so are those of many
+numbered_short : (text : List ℕ) (number : ℕ) (lines : List Part) → All (Stands text) lines → All (IsShortIn text) (numbered number lines)
+numbered_short text number [] all = All-nil (IsShortIn text)
+numbered_short text number (l ∷ ls) all =
+    All-cons (IsShortIn text) (line_at number l.start l.text) (numbered (number + 1) ls) (line_short text number l (All-head (Stands text) l ls all)) (numbered_short text (number + 1) ls (All-tail (Stands text) l ls all))
+
+-- the words of each line of a text, joined by single blanks, are no longer than the text
+pub lines_short : (text : List ℕ) (lines : List Line) → IsLines text lines → All (λ line. IsShortIn text (line_in text line)) lines
+unfolding lines_of
+lines_short text lines is =
+    let all = numbered_short text 1 (placed 0 (slice_split ends_line text)) (stand-slice_split ends_line text) in
+    let kept = All-filter has_words (IsShortIn text) (numbered 1 (placed 0 (slice_split ends_line text))) all in
+    All-from_map (line_in text) (IsShortIn text) lines (rw is.lines_are kept)

@@ -6,6 +6,7 @@ use Rattle.std.proofs.lemmas.List.{drop-drop, take_all}
 use Rattle.std.proofs.lemmas.List.Elements.{All-cons, All-map, All-weaker, All-head, All-tail, All-nil}
 use Rattle.std.specs.List.{All, slice_split, onto_first, slice_range}
 use Rattle.cpl_text.specs.Lines.{Part, part_at, placed}
+use Rattle.cpl_text.specs.Spans.{Stands}
 
 -- how many places the parts take, each with the byte behind it
 abbrev pub room : List (List ℕ) → ℕ
@@ -58,12 +59,6 @@ placed-push start (t ∷ ts) text =
     ∙ ap (λ s. part_at start t ∷ (placed next ts ++ part_at s text ∷ [])) same
 
 -- ---- each part stands in the text at its places
-
--- The part is what stands between its places.
-pub record Stands (text : List ℕ) (part : Part) : Type 0 where
-  pub forward : part.start ≤ part.«end»
-  pub within : part.«end» ≤ length text
-  pub text_is : slice_range text part.start part.«end» ≡ part.text
 
 -- a part so many places further on
 abbrev pub moved : ℕ → Part → Part

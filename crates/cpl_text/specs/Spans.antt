@@ -1,5 +1,6 @@
 -- What lines that are kept as spans of a text say: the same as the lines of that text.
-use Rattle.std.specs.Prelude.{◌≡◌, ℕ, List, map, slice_range, Option, None, Some}
+use Rattle.std.specs.Prelude.{◌≡◌, ℕ, ◌≤◌, List, length, map, slice_range, Option, None, Some}
+use Rattle.std.specs.List.{All}
 use Rattle.cpl_text.specs.declared.text_lines.Line.{Line}
 use Rattle.cpl_text.specs.declared.text_lines.Word.{Word}
 use Rattle.cpl_text.specs.declared.text_lines.TextFault.{TextFault}
@@ -13,6 +14,16 @@ part_in bytes word = record { start = word.start; «end» = word.«end»; text =
 -- the line of a text that spans name
 abbrev pub line_in : List ℕ → Line → TextLine
 line_in bytes line = record { number = line.number; words = map (part_in bytes) line.words.items }
+
+-- The part is what stands between its places.
+pub record Stands (text : List ℕ) (part : Part) : Type 0 where
+  pub forward : part.start ≤ part.«end»
+  pub within : part.«end» ≤ length text
+  pub text_is : slice_range text part.start part.«end» ≡ part.text
+
+-- all words of the line stand in the text
+pub record StandsIn (text : List ℕ) (line : TextLine) : Type 0 where
+  pub words_stand : All (Stands text) line.words
 
 -- These are the lines of the text, span by span, and each byte that is looked at is allowed.
 pub record IsLines (bytes : List ℕ) (lines : List Line) : Type 0 where

@@ -4,11 +4,11 @@
 //! between words (ESMF Reference Manual, Config class).
 
 ghost use Rattle.std.specs.Prelude.{◌≡◌, ◌+◌, ◌-◌, ◌^◌, ◌<◌, length, map, position, IfOk, IfErr, OnOk};
-ghost use Rattle.std.specs.List.{list_all};
+ghost use Rattle.std.specs.List.{All, list_all};
 ghost use Rattle.std.specs.Str.Lines.{strip_carriage_return};
 ghost use Rattle.cpl_text.specs.declared.text_lines.TextFault.TheVariants.{Memory as OutOfMemory};
 ghost use Rattle.cpl_text.specs.Lines.{begins_comment, faulty_line, is_allowed as is_allowed_byte, looked_at as looked_at_of, words_at};
-ghost use Rattle.cpl_text.specs.Spans.{IsCaused, IsLines, span_of};
+ghost use Rattle.cpl_text.specs.Spans.{IsCaused, IsLines, StandsIn, line_in, span_of};
 
 use std::alloc::{AllocError, AllocFailed, Global};
 
@@ -122,6 +122,8 @@ fn read_words(words: &mut Vec<Word>, start: usize, text: &[u8]) -> Result<(), Al
 pub fn lines(alloc: Global, bytes: &[u8]) -> Result<Vec<Line>, TextFault>
     requires { length bytes.now < 2 ^ 32 - 1 }
     ensures ok { IfOk result (λ lines. IsLines bytes.now lines.items) }
+    // Each word lies within the text and is what stands between its ends.
+    ensures stand { IfOk result (λ lines. All (λ line. StandsIn bytes.now (line_in bytes.now line)) lines.items) }
     ensures fault { IfErr result (IsCaused (faulty_line bytes.now)) }
 {
     let mut lines = Vec::new(alloc);

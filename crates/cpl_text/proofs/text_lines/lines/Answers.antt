@@ -7,7 +7,7 @@ use Rattle.cpl_text.specs.declared.text_lines.Line.{Line}
 use Rattle.cpl_text.specs.declared.text_lines.Word.{Word}
 use Rattle.cpl_text.specs.Lines.{ends_line, faulty_line, first_faulty, has_words, is_allowed, looked_at, numbered, placed, words_at}
 use Rattle.cpl_text.specs.Spans.{span_of}
-use Rattle.cpl_text.proofs.LineLaws.{first_faulty-at, first_faulty-push, length-looked_at, lines-push, lines-skip, lines_from_spans, spans, spans_of}
+use Rattle.cpl_text.proofs.LineLaws.{first_faulty-at, first_faulty-push, length-looked_at, lines-push, lines-skip, lines_from_spans, lines_stand, spans, spans_of}
 use Rattle.cpl_text.proofs.Places.{length-room, room, room-push, room-slice_split, room-so_far}
 use Rattle.cpl_text.proofs.text_lines.lines.Goals as goal
 use Rattle.cpl_text.proofs.text_lines.lines.Goals.{then-not-is_empty+in_ok-words+in_ok-push, else-not-is_empty}
@@ -88,3 +88,6 @@ pub returns-clause-ok : goal.returns-clause-ok
 returns-clause-ok c =
     let all = YieldsList-end (YieldsList-from_slice_split _ ends_line c.args.bytes.now (cc) (cc) (cc) (λ x b q k. search (rules, tests))) c.loop-line.yielded _ c.loop-line.yielded_by _ _ c.in-None.is c.next.ensures.steps in
     lines_from_spans c.args.bytes.now c.loop-line.lines.items (c.loop-line.invariant.lines_are ∙ ap (λ (texts : List (List ℕ)). map spans_of (filter has_words (numbered 1 (placed 0 texts)))) all.0) (ap (first_faulty 1) (sym all.0) ∙ c.loop-line.invariant.sound)
+
+pub returns-clause-stand : goal.returns-clause-stand
+returns-clause-stand c = lines_stand c.args.bytes.now c.loop-line.lines.items (returns-clause-ok c)
