@@ -1,0 +1,6 @@
+pub mod Cells
+pub mod Counting
+pub mod Dividing
+pub mod Owning
+pub mod Ranges
+pub mod Totals

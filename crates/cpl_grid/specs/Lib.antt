@@ -1,0 +1,4 @@
+pub mod Blocks
+pub mod Grid
+pub mod Owners
+pub mod Rows
