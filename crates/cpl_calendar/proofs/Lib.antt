@@ -1,0 +1,5 @@
+pub mod DateOrder
+pub mod JiffDays
+pub mod Months
+pub mod Readings
+pub mod Spelling

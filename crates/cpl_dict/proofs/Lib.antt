@@ -1,0 +1,7 @@
+mod Adding
+mod Agreeing
+mod Ascending
+mod Groups
+mod Names
+mod Noting
+mod Synonyms

@@ -1,0 +1,36 @@
+use Rattle.std.proofs.Common.{◌≡◌, ◌<◌, ℕ, List, Vec, Global, Some, [], get_or, length, ap, sym, subst, ◌∙◌, is_some, false, map, arith}
+use Rattle.std.proofs.lemmas.List.{length-map}
+use Rattle.std.specs.Map.{lookup}
+use Rattle.std.specs.Str.{bytes_eq}
+use Rattle.cpl_dict.proofs.Adding.{IsKept-names, dictionary_of}
+use Rattle.cpl_dict.proofs.Names.{lookup-names_of, place-names_of}
+use Rattle.cpl_dict.proofs.Noting.{lists_of-read}
+use Rattle.cpl_dict.proofs.Synonyms.{AreApart-names_of, calls-found, calls-missing}
+use Rattle.cpl_dict.specs.Dict.{Dictionary, has}
+use Rattle.cpl_dict.specs.Held.{lists_of, names_at, names_of, numbers_from}
+use Rattle.cpl_dict.proofs.dict.Dict.calls_of.Goals as goal
+
+pub returns-in-Some : goal.returns-in-Some
+returns-in-Some c =
+    let inside = c.self.inside in
+    let es = inside.names.entries in
+    let groups = lists_of inside.groups.items in
+    let lists = lists_of inside.calls.items in
+    let name = c.args.name.now in
+    let within : c.in-Some.place < length inside.calls.items = omega (arith, c.in-Some.ensures.within, c.self.invariant.counted, length-map inside.calls.items (λ (l : Vec ℕ Global). l.items)) in
+    let read = lists_of-read inside.calls.items c.in-Some.place c.index.result.now within c.index.ensures in
+    let at = sym (place-names_of name es) ∙ sym c.get_index_of.ensures.index ∙ c.in-Some.is in
+    c.as_slice.ensures.value ∙ sym read
+    ∙ calls-found (names_of es) groups lists (AreApart-names_of es c.get_index_of.ensures.unique) (IsKept-names es groups lists c.self.invariant) name c.in-Some.place at
+    ∙ ap (λ (d : Dictionary). numbers_from 0 (λ g. has g name) d.groups) c.self.view_is
+
+pub returns-in-None : goal.returns-in-None
+returns-in-None c =
+    let inside = c.self.inside in
+    let es = inside.names.entries in
+    let groups = lists_of inside.groups.items in
+    let lists = lists_of inside.calls.items in
+    let name = c.args.name.now in
+    let missing : is_some (lookup (bytes_eq name) (names_of es)) ≡ false = ap is_some (sym (lookup-names_of name es)) ∙ sym c.get_index_of.ensures.found ∙ ap is_some c.in-None.is in
+    calls-missing (names_of es) groups lists (IsKept-names es groups lists c.self.invariant) name missing
+    ∙ ap (λ (d : Dictionary). numbers_from 0 (λ g. has g name) d.groups) c.self.view_is
