@@ -4,5 +4,6 @@ pub mod Loading
 pub mod Numbers
 pub mod Numerals
 pub mod Outside
+pub mod Rounding
 pub mod Rows
 pub mod Words

@@ -5,3 +5,5 @@
 mod base;
 #[cfg(test)]
 mod formula;
+#[cfg(test)]
+mod rounding;
