@@ -23,7 +23,12 @@ fn rounds(rt: &(impl Env + AllocGlobal)) -> io::Result<u64> {
 }
 
 /// Prints what was summed, and how long that took.
-fn report(rt: &(impl Clock + Print + Eprint), name: &str, start: Instant, sum: i64) -> io::Result<()> {
+fn report(
+    rt: &(impl Clock + Print + Eprint),
+    name: &str,
+    start: Instant,
+    sum: i64,
+) -> io::Result<()> {
     let nanos = start.elapsed(rt)?.as_nanos();
     println!(rt; "{name} {sum}")?;
     eprintln!(rt; "{name} {nanos}")

@@ -72,15 +72,15 @@ near_of-signed true zero d some =
     ap pos low ∙ sym (ap (λ k. neg_ℤ (pos k)) high)
 near_of-signed true (suc m) d some = elim (cases_lt d (2 * suc m)) [
   | inl large ↦
-    let below = 2 * suc m - d - 1 in
-    let whole = div-add-mod' below (2 * d) in
-    let rest = mod_below below (2 * d) (omega arith) in
-    let more = div-is (2 * suc m + d - 1) (suc (below / (2 * d))) (below % (2 * d)) (2 * d) (omega (arith, whole)) rest in
-    ap (λ z. int_div_euclid z (pos (2 * d))) (below-large m d large) ∙ sym (ap (λ k. neg_ℤ (pos k)) more)
+      let below = 2 * suc m - d - 1 in
+      let whole = div-add-mod' below (2 * d) in
+      let rest = mod_below below (2 * d) (omega arith) in
+      let more = div-is (2 * suc m + d - 1) (suc (below / (2 * d))) (below % (2 * d)) (2 * d) (omega (arith, whole)) rest in
+      ap (λ z. int_div_euclid z (pos (2 * d))) (below-large m d large) ∙ sym (ap (λ k. neg_ℤ (pos k)) more)
   | inr small ↦
-    let low = div-is (d - 2 * suc m) 0 (d - 2 * suc m) (2 * d) (omega arith) (omega arith) in
-    let high = div-is (2 * suc m + d - 1) 0 (2 * suc m + d - 1) (2 * d) (omega arith) (omega arith) in
-    ap (λ z. int_div_euclid z (pos (2 * d))) (below-small m d small) ∙ ap pos low ∙ sym (ap (λ k. neg_ℤ (pos k)) high)
+      let low = div-is (d - 2 * suc m) 0 (d - 2 * suc m) (2 * d) (omega arith) (omega arith) in
+      let high = div-is (2 * suc m + d - 1) 0 (2 * suc m + d - 1) (2 * d) (omega arith) (omega arith) in
+      ap (λ z. int_div_euclid z (pos (2 * d))) (below-small m d small) ∙ ap pos low ∙ sym (ap (λ k. neg_ℤ (pos k)) high)
 ]
 
 -- a number below zero, by its size
@@ -120,7 +120,7 @@ differ a b = not (beq (is_negative a) (is_negative b))
 
 -- the quotient of two numbers, by their signs and sizes
 pub quotient_of-signed : (a b : ℤ) (s e : ℕ) → (b ≡ pos 0 → ⊥) → s ≡ unsigned_abs a → e ≡ unsigned_abs b
-  → signed (differ a b) (min (nearest_size (not (differ a b)) (s * million) e) greatest) ≡ quotient_of a b
+    → signed (differ a b) (min (nearest_size (not (differ a b)) (s * million) e) greatest) ≡ quotient_of a b
 quotient_of-signed a (pos zero) s e nonzero is_s is_e = absurd (nonzero refl)
 quotient_of-signed (pos x) (pos (suc y)) s e nonzero is_s is_e =
     let at_x = is_negative-pos x in

@@ -1,6 +1,6 @@
 -- Lists of ascending numbers, and what two of them have in common.
 use Rattle.std.proofs.Common.{◌≡◌, ℕ, ◌<◌, ◌≤◌, Bool, true, false, ◌||◌, eqb, suc, List, [], ◌∷◌, length, get_or, drop, refl, sym, ap, ◌∙◌, arith, ◌+◌}
-use Rattle.std.proofs.lemmas.Bool.{eq-eqb, ne_eqb, or_left}
+use Rattle.std.proofs.lemmas.Bool.{eq-eqb, ne_eqb}
 use Rattle.std.proofs.lemmas.List.{drop_more}
 use Rattle.std.specs.List.{list_any}
 use Rattle.cpl_dict.specs.Held.{IsAscending, has_place}
@@ -31,7 +31,7 @@ have_common-less x y xs ys lt h =
     let no : has_place (y ∷ ys) x ≡ false = has_place-below x y (y ∷ ys) lt (omega arith, h.1) in
     ap (λ b. b || have_common xs (y ∷ ys)) no
 
--- a number below all of the first list is in it for nothing
+-- a number of the second list that is below all of the first changes nothing
 pub have_common-below : (y n : ℕ) (xs ys : List ℕ) → y < n → IsAscending n xs → have_common xs (y ∷ ys) ≡ have_common xs ys
 have_common-below y n [] ys lt h = refl
 have_common-below y n (x ∷ xs) ys lt h =

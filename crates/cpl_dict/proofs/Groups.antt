@@ -1,6 +1,6 @@
 -- The numbers of the groups that have a place, and a dictionary's parts once it changes.
-use Rattle.std.proofs.Common.{◌≡◌, ℕ, ◌+◌, ◌<◌, ◌≤◌, Bool, true, false, cond, ◌&&◌, ◌||◌, suc, List, [], ◌∷◌, ◌++◌, length, get_or, map, All, Vec, Global, refl, sym, ap, subst, ◌∙◌, arith, zero}
-use Rattle.std.proofs.lemmas.List.{length_push, map_push}
+use Rattle.std.proofs.Common.{◌≡◌, ℕ, ◌+◌, ◌<◌, Bool, true, false, cond, ◌&&◌, ◌||◌, suc, List, [], ◌∷◌, ◌++◌, length, get_or, All, refl, sym, ap, subst, ◌∙◌, arith, zero}
+use Rattle.std.proofs.lemmas.List.{length_push}
 use Rattle.std.proofs.lemmas.List.Elements.{All-cons, All-from_get_or, All-nil, All-push, All-weaker}
 use Rattle.std.specs.List.{list_any}
 use Rattle.cpl_dict.proofs.Ascending.{IsAscending-lower, has_place-below, have_common, have_common-below, have_common-equal}

@@ -1,11 +1,11 @@
 -- Lists of numbers in code: what a write to one leaves, and a number put behind those of some places.
-use Rattle.std.proofs.Common.{◌≡◌, ℕ, ◌+◌, ◌-◌, ◌<◌, ◌≤◌, Bool, true, false, cond, ◌||◌, eqb, List, [], ◌∷◌, ◌++◌, length, get_or, set, take, map, All, Vec, Global, nat_eq, vec_len, Some, slice_get, refl, sym, ap, subst, ◌∙◌, arith, inl, inr}
+use Rattle.std.proofs.Common.{◌≡◌, ℕ, ◌+◌, ◌-◌, ◌<◌, Bool, true, false, cond, ◌||◌, eqb, List, [], ◌∷◌, ◌++◌, length, get_or, set, take, All, Vec, Global, nat_eq, Some, refl, sym, ap, subst, ◌∙◌, arith, inl, inr}
 use Rattle.std.proofs.lemmas.Bool.{cases_eq, eq-eqb, eqb-false, eqb-true, ne_eqb, or_cases, or_parts, or_right, false≢true}
 use Rattle.std.proofs.lemmas.List.{append-nil, get_or-map, get_or_push, get_or-set_same, get_or-set_other, length-map, length_push, length-set, map-set, set-get_or}
 use Rattle.std.proofs.lemmas.List.Elements.{All-head, All-tail, All-more, All-weaker}
 use Rattle.std.proofs.lemmas.List.Folds.{list_any_at, list_any_more}
 use Rattle.std.proofs.lemmas.Option.{slice_get-get_or, slice_get_cases}
-use Rattle.std.specs.List.{HoldsAt, list_any}
+use Rattle.std.specs.List.{HoldsAt}
 use Rattle.std.specs.Option.{option_eq}
 use Rattle.cpl_dict.specs.Held.{HasRoom, IsNotedAt, ends_with, has_place, lists_of, with_number}
 

@@ -1,5 +1,5 @@
 -- The definitions of dictionaries, evaluated on examples.
-use Rattle.std.specs.Prelude.{◌≡◌, List, [], ◌∷◌, codes, Ok, Err, Some, None}
+use Rattle.std.specs.Prelude.{◌≡◌, [], ◌∷◌, codes, Ok, Err, Some, None}
 use Rattle.cpl_dict.specs.Dict.{Dictionary, added, bond_of, bound, units_of}
 use Rattle.cpl_dict.specs.declared.fault.DictFault.TheVariants.{NameTwice, NameUnknown, UnitsDiffer}
 

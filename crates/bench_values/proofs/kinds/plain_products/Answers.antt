@@ -1,5 +1,5 @@
-use Rattle.std.proofs.Common.{◌≡◌, ◌≤◌, ◌^◌, ◌*ℤ◌, ◌-◌, FitsSigned, ℤ, pos, get_or, unsigned_abs, arith, refl, subst, sym, ap, ◌∙◌}
-use Rattle.std.proofs.lemmas.Int.{fits_signed_from_abs, fits_signed_mul, ints, to_z-of_z, unsigned_abs-mul}
+use Rattle.std.proofs.Common.{◌≡◌, ◌≤◌, ◌^◌, ◌*ℤ◌, ◌-◌, FitsSigned, ℤ, pos, get_or, unsigned_abs, arith, ap, ◌∙◌}
+use Rattle.std.proofs.lemmas.Int.{fits_signed_mul, ints, to_z-of_z, unsigned_abs-mul}
 use Rattle.std.proofs.lemmas.Nat.{mul-le}
 use Rattle.std.specs.Int.{w64, w128}
 use Rattle.cpl_base.specs.Numbers.{IsValue, greatest}
@@ -17,7 +17,7 @@ bounded x y u v is_x is_y at_u at_v =
     let b = widened y v is_y at_v in
     let fits : FitsSigned w128 (u *ℤ v) = fits_signed_mul w128 u v greatest greatest at_u at_v (omega arith) in
     let whole : to_z w128 (of_z w128 (to_z w128 (of_z w128 x) *ℤ to_z w128 (of_z w128 y))) ≡ u *ℤ v =
-      (λ j. to_z w128 (of_z w128 (a j *ℤ b j))) ∙ to_z-of_z w128 (u *ℤ v) fits in
+    (λ j. to_z w128 (of_z w128 (a j *ℤ b j))) ∙ to_z-of_z w128 (u *ℤ v) fits in
     let small = mul-le (unsigned_abs u) (unsigned_abs v) greatest greatest at_u at_v in
     omega (arith, ap unsigned_abs whole, unsigned_abs-mul u v, small)
 

@@ -1,4 +1,4 @@
-use Rattle.std.proofs.Common.{◌≡◌, ◌<◌, ◌≢◌, arith, get_or, length, drop, ap, sym, ◌∙◌}
+use Rattle.std.proofs.Common.{◌<◌, arith, get_or, drop, ap, sym, ◌∙◌}
 use Rattle.std.proofs.lemmas.List.{drop_all}
 use Rattle.cpl_dict.proofs.Ascending.{IsAscending-rest, have_common, have_common-nil, have_common-pass_first, have_common-pass_second}
 use Rattle.cpl_dict.proofs.numbers.meet.Goals as goal

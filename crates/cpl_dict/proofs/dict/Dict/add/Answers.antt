@@ -1,4 +1,4 @@
-use Rattle.std.proofs.Common.{◌≡◌, ◌++◌, ◌+◌, [], ◌∷◌, false, None, Ok, rules, Vec, Global, ℕ, List, length, is_some, arith, ap, subst, sym, ◌∙◌}
+use Rattle.std.proofs.Common.{◌≡◌, ◌++◌, ◌+◌, [], ◌∷◌, false, None, Ok, rules, Vec, Global, ℕ, length, is_some, ap, subst, sym, ◌∙◌}
 use Rattle.std.proofs.lemmas.List.{length_push, map_push}
 use Rattle.std.specs.Map.{lookup}
 use Rattle.std.specs.Str.{bytes_eq}

@@ -1,13 +1,13 @@
-use Rattle.std.proofs.Common.{◌≡◌, ◌<◌, ℕ, List, Vec, Global, Some, [], get_or, length, ap, sym, subst, ◌∙◌, is_some, false, map, arith}
+use Rattle.std.proofs.Common.{◌≡◌, ◌<◌, ℕ, Vec, Global, length, ap, sym, ◌∙◌, is_some, false, arith}
 use Rattle.std.proofs.lemmas.List.{length-map}
 use Rattle.std.specs.Map.{lookup}
 use Rattle.std.specs.Str.{bytes_eq}
-use Rattle.cpl_dict.proofs.Adding.{IsKept-names, dictionary_of}
+use Rattle.cpl_dict.proofs.Adding.{IsKept-names}
 use Rattle.cpl_dict.proofs.Names.{lookup-names_of, place-names_of}
 use Rattle.cpl_dict.proofs.Noting.{lists_of-read}
 use Rattle.cpl_dict.proofs.Synonyms.{AreApart-names_of, calls-found, calls-missing}
 use Rattle.cpl_dict.specs.Dict.{Dictionary, has}
-use Rattle.cpl_dict.specs.Held.{lists_of, names_at, names_of, numbers_from}
+use Rattle.cpl_dict.specs.Held.{lists_of, names_of, numbers_from}
 use Rattle.cpl_dict.proofs.dict.Dict.calls_of.Goals as goal
 
 pub returns-in-Some : goal.returns-in-Some
