@@ -1,5 +1,5 @@
 -- What stands under a label in a map, and in the list of its entries.
-use Rattle.std.proofs.Common.{◌≡◌, ℕ, Bool, cond, true, false, inl, inr, List, [], ◌∷◌, ◌++◌, Option, Some, None, IfSome, option_copied, refl, ap, subst}
+use Rattle.std.proofs.Common.{◌≡◌, ℕ, cond, inl, inr, List, [], ◌∷◌, ◌++◌, Option, Some, None, IfSome, option_copied, refl, ap, subst}
 use Rattle.std.proofs.lemmas.Bool.{cases_Bool}
 use Rattle.std.proofs.lemmas.List.Elements.{All-head, All-tail}
 use Rattle.std.specs.Borrow.{Bor}

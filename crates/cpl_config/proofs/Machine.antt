@@ -1,17 +1,16 @@
 -- Reading line by line gives the items of the definition, which looks at all lines at once.
-use Rattle.std.proofs.Common.{◌≡◌, ℕ, Bool, true, false, not, cond, inl, inr, List, [], ◌∷◌, ◌++◌, map, Option, Some, None, is_some, option_map, Result, Ok, Err, ◌+◌, take, refl, sym, ap, ◌∙◌, append_assoc, arith, suc}
+use Rattle.std.proofs.Common.{◌≡◌, ℕ, Bool, true, false, not, inl, inr, List, [], ◌∷◌, ◌++◌, map, Option, Some, None, is_some, Result, Ok, Err, ◌+◌, take, refl, sym, ap, ◌∙◌, append_assoc, arith, suc}
 use Rattle.std.proofs.lemmas.Bool.{cases_Bool}
 use Rattle.std.proofs.lemmas.List.{append-nil}
 use Rattle.std.specs.List.{filter_map, list_any, prefix_len}
-use Rattle.std.specs.Option.{option_or, option_to_list}
 use Rattle.cpl_config.specs.declared.faults.ItemFault.{ItemFault}
 use Rattle.cpl_config.specs.declared.faults.ItemFault.TheVariants.{BadLine, StrayClose, LabelTwice, Unclosed, Memory}
 use Rattle.cpl_config.specs.declared.row.Row.{Row}
 use Rattle.cpl_config.specs.declared.row.Table.{Table}
-use Rattle.cpl_config.specs.Items.{ItemList, WordLine, first_fault, found, items_of, judged, no_items, outside, own_fault, row_of, rows_of, table_at, twice, unclosed, value_at}
+use Rattle.cpl_config.specs.Items.{ItemList, WordLine, first_fault, found, items_of, judged, no_items, outside, row_of, rows_of, table_at, value_at}
 use Rattle.cpl_config.specs.Reads.{IsCaused}
-use Rattle.cpl_config.specs.Steps.{inside_of, line_of, opened_or_valued, opening, outside_of, valued, with_row, with_table, with_value}
-use Rattle.cpl_config.specs.Words.{closes, ends_in_colons, is_stray, opened_by, value_in}
+use Rattle.cpl_config.specs.Steps.{inside_of, line_of, outside_of, with_row, with_table, with_value}
+use Rattle.cpl_config.specs.Words.{closes, ends_in_colons, opened_by, value_in}
 
 -- goes on behind a line outside of tables, unless it is refused
 abbrev pub go_on : Result (ItemList × Option (List ℕ × Table)) ItemFault → (ItemList → Option (List ℕ × Table) → Result ItemList ItemFault) → Result ItemList ItemFault

@@ -1,5 +1,5 @@
 -- How long the words of a row are, joined by single blanks.
-use Rattle.std.proofs.Common.{◌≡◌, ℕ, ◌+◌, ◌<◌, ◌≤◌, Bool, true, false, cond, eqb, inl, inr, List, [], ◌∷◌, ◌++◌, length, Option, Some, None, IfSome, refl, sym, ap, arith, length-append}
+use Rattle.std.proofs.Common.{ℕ, ◌≤◌, eqb, inl, inr, List, [], ◌∷◌, length, Option, Some, None, IfSome, arith, length-append}
 use Rattle.std.proofs.lemmas.Bool.{cases_Bool}
 use Rattle.std.specs.List.{join_with_byte}
 use Rattle.cpl_base.specs.Numerals.{cut_at, onto_front}

@@ -1,11 +1,11 @@
 -- What reading has to give, by what the lines and the items that it is given or keeps stand for.
-use Rattle.std.specs.Prelude.{◌≡◌, ℕ, ◌^◌, ◌<◌, List, map, length, Result, Ok, Err}
+use Rattle.std.specs.Prelude.{◌≡◌, ◌^◌, ◌<◌, map, length, Result, Err}
 use Rattle.std.specs.List.{join_with_byte}
-use Rattle.cpl_text.specs.Lines.{TextLine, lines_of}
+use Rattle.cpl_text.specs.Lines.{TextLine}
 use Rattle.cpl_config.specs.declared.faults.ItemFault.{ItemFault}
 use Rattle.cpl_config.specs.declared.faults.ItemFault.TheVariants.{BadLine, StrayClose, LabelTwice, Unclosed, Memory}
 use Rattle.cpl_config.specs.declared.row.Row.{Row}
-use Rattle.cpl_config.specs.Items.{ItemList, WordLine}
+use Rattle.cpl_config.specs.Items.{WordLine}
 
 -- a line of the text by the texts of its words
 abbrev pub plain : TextLine → WordLine

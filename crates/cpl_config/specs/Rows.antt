@@ -1,11 +1,10 @@
 -- The definitions of items, evaluated on small files.
-use Rattle.std.specs.Prelude.{◌≡◌, ℕ, List, [], ◌∷◌, codes, map, Option, Some, None, Result, Ok, Err}
-use Rattle.cpl_text.specs.Lines.{TextLine, lines_of}
+use Rattle.std.specs.Prelude.{◌≡◌, ℕ, List, [], ◌∷◌, codes, map, Result, Ok, Err}
+use Rattle.cpl_text.specs.Lines.{lines_of}
 use Rattle.cpl_config.specs.declared.faults.ItemFault.{ItemFault}
 use Rattle.cpl_config.specs.declared.faults.ItemFault.TheVariants.{BadLine, StrayClose, LabelTwice, Unclosed}
 use Rattle.cpl_config.specs.declared.row.Row.{Row}
-use Rattle.cpl_config.specs.declared.row.Table.{Table}
-use Rattle.cpl_config.specs.Items.{ItemList, WordLine, items_of}
+use Rattle.cpl_config.specs.Items.{ItemList, items_of}
 use Rattle.cpl_config.specs.Reads.{plain}
 
 -- the items that a text describes

@@ -1,5 +1,5 @@
 -- What reading one line does to the items so far and to the table that is open.
-use Rattle.std.specs.Prelude.{◌≡◌, ℕ, if◌then◌else◌, List, [], ◌∷◌, ◌++◌, Option, Some, None, is_some, Result, Ok, Err}
+use Rattle.std.specs.Prelude.{ℕ, if◌then◌else◌, List, [], ◌∷◌, ◌++◌, Option, Some, None, is_some, Result, Ok, Err}
 use Rattle.std.specs.List.{All}
 use Rattle.cpl_config.specs.declared.faults.ItemFault.{ItemFault}
 use Rattle.cpl_config.specs.declared.faults.ItemFault.TheVariants.{BadLine, StrayClose, LabelTwice}

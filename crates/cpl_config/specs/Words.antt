@@ -1,5 +1,5 @@
 -- What the words of one line say in a resource file.
-use Rattle.std.specs.Prelude.{◌≡◌, ℕ, ◌-◌, Bool, true, false, ◌&&◌, if◌then◌else◌, nat_lt, List, [], ◌∷◌, length, take, drop, codes, Option, Some, None}
+use Rattle.std.specs.Prelude.{ℕ, ◌-◌, Bool, false, ◌&&◌, if◌then◌else◌, nat_lt, List, [], ◌∷◌, length, take, drop, codes, Option, Some, None}
 use Rattle.std.specs.Str.{bytes_eq}
 use Rattle.cpl_base.specs.Numerals.{cut_at}
 use Rattle.cpl_base.specs.Words.{is_some_of}

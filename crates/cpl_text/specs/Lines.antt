@@ -1,5 +1,5 @@
 -- The lines of a text and their words, each word with the place where it stands: the text cut into lists.
-use Rattle.std.specs.Prelude.{◌≡◌, ℕ, ◌+◌, Bool, ◌&&◌, ◌||◌, ◌==◌, if◌then◌else◌, nat_le, nat_lt, List, [], ◌∷◌, length, filter, Option, Some, None}
+use Rattle.std.specs.Prelude.{ℕ, ◌+◌, Bool, ◌&&◌, ◌||◌, ◌==◌, if◌then◌else◌, nat_le, nat_lt, List, [], ◌∷◌, length, filter, Option, Some, None}
 use Rattle.std.specs.List.{before_first, list_all, slice_split}
 use Rattle.std.specs.Str.Lines.{strip_carriage_return}
 

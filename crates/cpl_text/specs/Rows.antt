@@ -1,6 +1,6 @@
 -- The definitions of lines and words, evaluated on small texts.
-use Rattle.std.specs.Prelude.{◌≡◌, ℕ, List, [], ◌∷◌, ◌++◌, codes, map, Option, Some, None}
-use Rattle.cpl_text.specs.Lines.{Part, TextLine, faulty_line, lines_of}
+use Rattle.std.specs.Prelude.{◌≡◌, ℕ, List, [], ◌∷◌, ◌++◌, codes, map, Some, None}
+use Rattle.cpl_text.specs.Lines.{TextLine, faulty_line, lines_of}
 
 -- the number of a line, and the texts of its words
 abbrev pub line_texts : TextLine → ℕ × List (List ℕ)

@@ -1,6 +1,6 @@
-use Rattle.std.proofs.Common.{None, Result, ℕ, suc, drop-cons, option_map, ◌≡◌, ◌∷◌, ◌<◌, ◌≤◌, List, length, drop, map, ap, sym, subst, ◌∙◌, arith}
+use Rattle.std.proofs.Common.{None, Result, ℕ, suc, drop-cons, option_map, ◌≡◌, ◌∷◌, List, drop, map, ap, sym, subst, ◌∙◌, arith}
 use Rattle.cpl_text.specs.declared.text_lines.Line.{Line}
-use Rattle.cpl_text.specs.Lines.{TextLine, lines_of}
+use Rattle.cpl_text.specs.Lines.{lines_of}
 use Rattle.cpl_text.specs.Spans.{StandsIn, line_in}
 use Rattle.cpl_text.proofs.LineLaws.{IsShortIn, lines_short, lines_stand}
 use Rattle.cpl_config.specs.declared.faults.ItemFault.{ItemFault}

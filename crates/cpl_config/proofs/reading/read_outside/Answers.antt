@@ -1,7 +1,6 @@
-use Rattle.std.proofs.Common.{◌<◌, ◌≤◌, length, Option, Some, IfSome, sym, arith, List, ℕ, subst}
+use Rattle.std.proofs.Common.{◌≤◌, length, Option, IfSome, sym, arith, List, ℕ, subst}
 use Rattle.std.specs.List.{join_with_byte}
 use Rattle.cpl_config.specs.Kept.{texts}
-use Rattle.cpl_config.specs.Reads.{IsShort}
 use Rattle.cpl_config.specs.Words.{values_of}
 use Rattle.cpl_config.proofs.Shorts.{value_in-short}
 use Rattle.cpl_config.proofs.reading.read_outside.Goals as goal

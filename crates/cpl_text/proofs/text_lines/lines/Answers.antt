@@ -1,4 +1,4 @@
-use Rattle.std.proofs.Common.{◌≡◌, ◌+◌, ◌<◌, ◌≤◌, [], ◌∷◌, ◌++◌, List, ℕ, true, false, length, length-append, get_or, map, take, filter, Some, arith, rules, tests, sym, ap, ◌∙◌}
+use Rattle.std.proofs.Common.{◌≡◌, ◌+◌, ◌<◌, [], ◌∷◌, ◌++◌, List, ℕ, true, false, length, length-append, get_or, map, take, filter, Some, arith, rules, tests, sym, ap, ◌∙◌}
 use Rattle.std.proofs.lemmas.Iterator.Consumers.{YieldsList-end, YieldsList-so_far, YieldsList-turn}
 use Rattle.std.proofs.lemmas.Iterator.Splits.{YieldsList-from_slice_split}
 use Rattle.std.proofs.lemmas.List.{length-map, map-append}
@@ -8,7 +8,7 @@ use Rattle.cpl_text.specs.declared.text_lines.Word.{Word}
 use Rattle.cpl_text.specs.Lines.{ends_line, faulty_line, first_faulty, has_words, is_allowed, looked_at, numbered, placed, words_at}
 use Rattle.cpl_text.specs.Spans.{span_of}
 use Rattle.cpl_text.proofs.LineLaws.{first_faulty-at, first_faulty-push, length-looked_at, lines-push, lines-skip, lines_from_spans, lines_stand, spans, spans_of}
-use Rattle.cpl_text.proofs.Places.{length-room, room, room-push, room-slice_split, room-so_far}
+use Rattle.cpl_text.proofs.Places.{room, room-push, room-so_far}
 use Rattle.cpl_text.proofs.text_lines.lines.Goals as goal
 use Rattle.cpl_text.proofs.text_lines.lines.Goals.{then-not-is_empty+in_ok-words+in_ok-push, else-not-is_empty}
 

@@ -1,4 +1,4 @@
-use Rattle.std.proofs.Common.{◌≡◌, ◌+◌, length, map, filter, None}
+use Rattle.std.proofs.Common.{◌≡◌, length, map, filter, None}
 use Rattle.cpl_text.specs.Lines.{first_faulty, has_words, numbered, placed}
 use Rattle.cpl_text.proofs.LineLaws.{spans, spans_of}
 use Rattle.cpl_text.proofs.Places.{room}

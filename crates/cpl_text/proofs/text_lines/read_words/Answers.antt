@@ -1,12 +1,12 @@
-use Rattle.std.proofs.Common.{◌≡◌, ◌+◌, ◌<◌, ◌≤◌, [], ◌∷◌, ◌++◌, List, ℕ, length, get_or, map, take, filter, arith, rules, tests, sym, ap, ◌∙◌}
+use Rattle.std.proofs.Common.{◌≡◌, ◌+◌, ◌<◌, [], ◌∷◌, ◌++◌, List, ℕ, length, get_or, map, take, filter, arith, rules, tests, sym, ap, ◌∙◌}
 use Rattle.std.proofs.lemmas.Iterator.Consumers.{YieldsList-end, YieldsList-so_far, YieldsList-turn}
 use Rattle.std.proofs.lemmas.Iterator.Splits.{YieldsList-from_slice_split}
 use Rattle.std.proofs.lemmas.List.{map-append}
 use Rattle.std.specs.List.{slice_split}
-use Rattle.cpl_text.specs.Lines.{Part, is_blank, is_word, placed}
+use Rattle.cpl_text.specs.Lines.{is_blank, is_word, placed}
 use Rattle.cpl_text.specs.Spans.{span_of}
 use Rattle.cpl_text.proofs.LineLaws.{words-push, words-skip}
-use Rattle.cpl_text.proofs.Places.{room, room-push, room-so_far}
+use Rattle.cpl_text.proofs.Places.{room-push, room-so_far}
 use Rattle.cpl_text.proofs.text_lines.read_words.Goals as goal
 use Rattle.cpl_text.proofs.text_lines.read_words.Goals.{then-not-is_empty+in_ok-push, else-not-is_empty}
 

@@ -1,4 +1,4 @@
-use Rattle.std.proofs.Common.{◌≡◌, ap, ◌∙◌}
+use Rattle.std.proofs.Common.{ap, ◌∙◌}
 use Rattle.std.specs.List.{All}
 use Rattle.cpl_config.specs.declared.row.Table.{Table}
 use Rattle.cpl_config.specs.Items.{ItemList, found}

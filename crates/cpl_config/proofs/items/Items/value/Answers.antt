@@ -1,5 +1,4 @@
-use Rattle.std.proofs.Common.{◌≡◌, ap, ◌∙◌}
-use Rattle.cpl_config.specs.declared.row.Row.{Row}
+use Rattle.std.proofs.Common.{ap, ◌∙◌}
 use Rattle.cpl_config.specs.Items.{ItemList, found}
 use Rattle.cpl_config.specs.Kept.{by_label}
 use Rattle.cpl_config.specs.Reads.{IsShort}
