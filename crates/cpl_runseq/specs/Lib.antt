@@ -1,0 +1,17 @@
+pub mod Asked
+pub mod Causes
+pub mod Examples
+pub mod Left
+pub mod Links
+pub mod Options
+pub mod Places
+pub mod Readings
+pub mod Rows
+pub mod Sayings
+pub mod Sequence
+pub mod Sound
+pub mod Steps
+pub mod Turns
+pub mod Unrolled
+pub mod Whole
+pub mod Words

@@ -1,0 +1,115 @@
+-- The options of a link.
+use Rattle.std.specs.Prelude.{ℕ, ℤ, pos, Bool, false, ◌==◌, if◌then◌else◌, List, [], ◌∷◌, fold, codes, Option, Some, None, option_map, Result, Ok, Err}
+use Rattle.std.specs.List.{list_all, slice_split}
+use Rattle.std.specs.Option.{ok_or}
+use Rattle.std.specs.Str.{str_eq_ignore_ascii_case}
+use Rattle.cpl_base.specs.Chain.{◌>>=◌, when}
+use Rattle.cpl_base.specs.Numerals.{cut_at, signed, signed_part}
+use Rattle.cpl_runseq.specs.declared.faults.SeqFault.{SeqFault}
+use Rattle.cpl_runseq.specs.declared.faults.SeqFault.TheVariants.{BadElement, MethodUnsupported}
+use Rattle.cpl_runseq.specs.declared.link_line.Method.{Method}
+use Rattle.cpl_runseq.specs.declared.link_line.Method.TheVariants.{Redist, Weights}
+use Rattle.cpl_runseq.specs.Sayings.{number_in}
+use Rattle.cpl_runseq.specs.declared.told.Told.{Told}
+use Rattle.cpl_runseq.specs.declared.told.Transfer.{Transfer as ToldTransfer}
+
+-- goes on with the value, unless there is a fault
+infixl 10 ◌>>!◌
+abbrev pub ◌>>!◌ : {A B : Type 0} → Result A SeqFault → (A → Result B SeqFault) → Result B SeqFault
+Err fault >>! f = Err fault
+Ok value >>! f = f value
+
+-- the values of the options that have an effect, where they are given
+pub record OptionTexts : Type 0 where
+  pub method : Option (List ℕ)
+  pub file : Option (List ℕ)
+  pub terms : Option (List ℕ)
+
+-- no option
+abbrev pub no_options : OptionTexts
+no_options = record { method = None; file = None; terms = None }
+
+-- one option more, by its name without regard to case; the last of a name counts
+abbrev pub with_option : OptionTexts → List ℕ → List ℕ → OptionTexts
+with_option so_far name value =
+    if str_eq_ignore_ascii_case name (codes "remapMethod") then record so_far { method = Some value }
+    else if str_eq_ignore_ascii_case name (codes "weightFile") then record so_far { file = Some value }
+    else if str_eq_ignore_ascii_case name (codes "srcTermProcessing") then record so_far { terms = Some value }
+    else so_far
+
+-- one piece more; without `=` it has no effect
+abbrev pub with_halves : OptionTexts → Option (List ℕ × List ℕ) → OptionTexts
+with_halves so_far None = so_far
+with_halves so_far (Some halves) = with_option so_far halves.0 halves.1
+
+-- the pieces of a word, between its colons
+abbrev pub with_word : OptionTexts → List ℕ → OptionTexts
+with_word so_far word = fold (λ texts piece. with_halves texts (cut_at 61 piece)) so_far (slice_split (λ c. c == 58) word)
+
+-- the options of words
+abbrev pub option_texts : List (List ℕ) → OptionTexts
+option_texts words = fold with_word no_options words
+
+-- whether a word begins with a colon
+abbrev pub begins_with_colon : List ℕ → Bool
+begins_with_colon [] = false
+begins_with_colon (c ∷ cs) = c == 58
+
+-- how values go over: the method, the file of weights (empty without them), and the number of terms
+pub record Transfer : Type 0 where
+  pub method : Method
+  pub file : List ℕ
+  pub terms : ℤ
+
+-- the method that is named, if it is known; `redist` where none is named
+abbrev pub method_in : Option (List ℕ) → Option Method
+method_in None = Some Redist
+method_in (Some name) =
+    if str_eq_ignore_ascii_case name (codes "redist") then Some Redist
+    else if str_eq_ignore_ascii_case name (codes "weights") then Some Weights
+    else None
+
+-- a number word behind a sign
+abbrev pub signed_number : Bool × List ℕ → Option ℤ
+signed_number parts = number_in parts.1 >>= (λ n. Some (signed parts.0 n))
+
+-- the number of terms, 0 where none is given
+abbrev pub terms_in : Option (List ℕ) → Option ℤ
+terms_in None = Some (pos 0)
+terms_in (Some text) = signed_number (signed_part text)
+
+-- the name of the file of weights, which only `weights` has, and must have
+abbrev pub file_in : Method → Option (List ℕ) → Option (List ℕ)
+file_in Redist file = Some []
+file_in Weights None = None
+file_in Weights (Some []) = None
+file_in Weights (Some (c ∷ cs)) = Some (c ∷ cs)
+
+-- how values go over by these options
+abbrev pub transfer_by : ℕ → OptionTexts → Result Transfer SeqFault
+transfer_by line texts =
+    ok_or (method_in texts.method) (MethodUnsupported line) >>! (λ method.
+    ok_or (terms_in texts.terms) (BadElement line) >>! (λ terms.
+    ok_or (file_in method texts.file) (BadElement line) >>! (λ file.
+    Ok (record { method = method; file = file; terms = terms }))))
+
+-- how values go over by the words behind a link, each of which begins with a colon
+abbrev pub transfer_of : ℕ → List (List ℕ) → Result Transfer SeqFault
+transfer_of line words = ok_or (when (list_all begins_with_colon words)) (BadElement line) >>! (λ _. transfer_by line (option_texts words))
+
+-- the texts that the code tells
+abbrev pub texts_told : Told → OptionTexts
+texts_told told = record {
+  method = option_map (λ text. text.now) told.method;
+  file = option_map (λ text. text.now) told.file;
+  terms = option_map (λ text. text.now) told.terms;
+}
+
+-- the way that the code tells
+abbrev pub transfer_told : ToldTransfer → Transfer
+transfer_told t = record { method = t.method; file = t.file.now; terms = t.terms }
+
+-- the outcome that the code tells
+abbrev pub result_told : Result ToldTransfer SeqFault → Result Transfer SeqFault
+result_told (Ok t) = Ok (transfer_told t)
+result_told (Err fault) = Err fault

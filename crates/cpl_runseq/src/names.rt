@@ -1,0 +1,14 @@
+//! The components that a run sequence may name.
+
+use cpl_base::{Many, Text};
+
+/// A component by its name, with the phases that it has.
+#[derive(Debug, Drop)]
+pub struct SeqName {
+    /// Its name.
+    pub name: Text,
+    /// The labels of its phases, in the order in which they are registered.
+    pub phases: Many<Text>,
+    /// How many seconds a step of it covers at the most, if it has such a limit.
+    pub substep: Option<i64>,
+}
