@@ -5,3 +5,5 @@
 mod items;
 #[cfg(test)]
 mod lines;
+#[cfg(test)]
+mod sequence;
