@@ -2,13 +2,16 @@
 //!
 //! A sign and a size stand for a number here, and what fits 64 bits is divided in 64 bits.
 
-ghost use Rattle.std.specs.Prelude.{◌≡◌, ◌^◌, ◌<◌, ◌≤◌, pos, ◌+ℤ◌, ◌*ℤ◌, ◌<ℤ◌, ◌≤ℤ◌, ◌*◌, min, not, unsigned_abs};
-ghost use Rattle.cpl_base.specs.Numbers.{IsValue, greatest};
+ghost use Rattle.std.specs.Prelude.{◌≡◌, ◌^◌, ◌<◌, ◌≤◌, pos, ◌+ℤ◌, ◌*ℤ◌, ◌<ℤ◌, ◌≤ℤ◌, ◌*◌, negsuc, min, not, unsigned_abs};
+ghost use Rattle.cpl_base.specs.Numbers.{IsValue, greatest, million};
 ghost use Rattle.cpl_base.specs.Numerals.{signed};
 ghost use Rattle.cpl_base.specs.Rounding.{near_of, nearest_size, product_of, quotient_of};
 
 /// A unit has so many millionths.
 const MILLION: u64 = 1_000_000;
+
+/// A number of whole millions; twice that, and half a million, fit 63 bits.
+const SHIFT: i64 = 4_611_686_018_427_000_000;
 
 /// The greatest value, in millionths.
 const GREATEST: u128 = 1_000_000_000_000_000;
@@ -43,8 +46,10 @@ pub fn mul(a: i64, b: i64) -> i64
     ensures value { result ≡ product_of a b }
     ensures within { IsValue result }
 {
-    let minus = (a < 0) != (b < 0);
-    scaled(minus, a.unsigned_abs(), b.unsigned_abs(), MILLION)
+    match a.checked_mul(b) {
+        Some(product) if (-SHIFT..=SHIFT).contains(&product) => whole_millions(product),
+        _ => wide_product(a, b),
+    }
 }
 
 /// The quotient of two values, both in millionths: the nearest value, a half goes up; 0 where the
@@ -63,6 +68,30 @@ pub fn div(a: i64, b: i64) -> i64
     }
     let minus = (a < 0) != (b < 0);
     scaled(minus, a.unsigned_abs(), MILLION, b.unsigned_abs())
+}
+
+/// The product of two values, by a sign and two sizes.
+fn wide_product(a: i64, b: i64) -> i64
+    requires a { IsValue a }
+    requires b { IsValue b }
+    ensures value { result ≡ product_of a b }
+    ensures within { IsValue result }
+{
+    let minus = (a < 0) != (b < 0);
+    scaled(minus, a.unsigned_abs(), b.unsigned_abs(), MILLION)
+}
+
+/// The whole number of millions that is nearest; a half goes up. One division by a constant, of a number
+/// that isn't below 0 once it is shifted by whole millions.
+#[inline(always)]
+fn whole_millions(number: i64) -> i64
+    requires least { negsuc 4611686018426999999 ≤ℤ number }
+    requires most { number ≤ℤ pos 4611686018427000000 }
+    ensures value { result ≡ near_of number (pos million) }
+    ensures within { IsValue result }
+{
+    let shifted = (number + 500_000 + SHIFT) as u64;
+    (shifted / MILLION) as i64 - 4_611_686_018_427
 }
 
 /// A sign on `size * by / d`, rounded, and at the greatest value at the most.
