@@ -5,7 +5,8 @@ use Rattle.cpl_base.specs.Chain.{◌>>=◌}
 use Rattle.cpl_base.specs.Numerals.{are_digits, cut_at, number}
 use Rattle.cpl_runseq.specs.declared.said.Said.{Said}
 use Rattle.cpl_runseq.specs.declared.said.Said.TheVariants as forms
-use Rattle.cpl_runseq.specs.Words.{arrow, texts}
+use Rattle.cpl_config.specs.Kept.{texts}
+use Rattle.cpl_runseq.specs.Words.{arrow}
 
 -- what a row says: a loop ends; one begins, with its step (none for `*`) and its duration, if given; a
 -- connector runs, with options; a phase runs; or nothing that is known

@@ -7,7 +7,7 @@ ghost use Rattle.cpl_runseq.specs.Causes.{IsCaused};
 ghost use Rattle.cpl_runseq.specs.Links.{link_at};
 ghost use Rattle.cpl_runseq.specs.Options.{transfer_told};
 ghost use Rattle.cpl_runseq.specs.Steps.{agrees as agrees_with, component_of as component_at, connected, fits_step as fits, link_in as link_at_row, linked, phase_of as phase_at, ran, reading_of, run_in as run_at, same_method as is_same_method, substep_of as substep_at};
-ghost use Rattle.cpl_runseq.specs.Words.{texts};
+ghost use Rattle.cpl_config.specs.Kept.{texts};
 
 use crate::element::Element;
 use crate::faults::SeqFault;

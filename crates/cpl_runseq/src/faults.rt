@@ -9,7 +9,8 @@ use std::alloc::{AllocError, AllocFailed};
 /// Why rows are no run sequence.
 #[derive(Clone, Copy, Debug, PartialEq, Eq)]
 pub enum SeqFault {
-    /// A row of no form that is known, or an option of none.
+    /// A row of no form that is known, also one that begins with `@@`; or an option without a colon in front,
+    /// a number of terms that is none, or a method that lacks its file.
     BadElement {
         /// The number of the line.
         line: u32,
@@ -29,7 +30,8 @@ pub enum SeqFault {
         /// The number of the line.
         line: u32,
     },
-    /// A row that begins with `@` and opens no loop, or a loop that lasts longer than the step around it.
+    /// A row of one word that begins with `@` and gives no step or duration in range, or a nested loop that
+    /// lasts longer than the step around it.
     BadStep {
         /// The number of the line.
         line: u32,
@@ -76,22 +78,23 @@ pub enum SeqFault {
     },
     /// A loop that is open at the end.
     LoopUnclosed {
-        /// The number of the line.
+        /// The number of the line that opens the innermost.
         line: u32,
     },
-    /// A top loop without a duration that doesn't last up to a given stop time.
+    /// A top loop without a duration that isn't the last, or for which there is no stop time.
     DurationMissing {
         /// The number of the line.
         line: u32,
     },
-    /// The top loops don't last up to the given stop time, or longer.
+    /// The durations of the top loops don't add up to the span up to the stop time, or leave nothing of it
+    /// for the last, which has none.
     SpanMismatch {
         /// How long the loops with a duration last together, in seconds.
         have: u128,
-        /// How long the run lasts, in seconds.
+        /// The span from start to stop, in seconds.
         want: i64,
     },
-    /// Without a stop time, the top loops last no time at all, or go past the last moment.
+    /// Without a stop time, the top loops last no time at all, or the calendar ends before they do.
     SpanTooLong {
         /// How long they last together, in seconds.
         span: u128,

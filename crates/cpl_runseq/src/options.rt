@@ -3,10 +3,9 @@
 ghost use Rattle.std.specs.Prelude.{◌≡◌, codes, option_map};
 ghost use Rattle.std.specs.List.{list_all};
 ghost use Rattle.std.specs.Str.{str_eq_ignore_ascii_case};
-ghost use Rattle.cpl_base.specs.Numerals.{signed_part};
 ghost use Rattle.cpl_runseq.specs.Options.{begins_with_colon as begins, file_in as file_of, method_in as method_of, option_texts as texts_of, result_told, signed_number as number_behind, terms_in as terms_of, texts_told, transfer_by as transfer_from, transfer_of, with_halves as halves_added, with_option as option_added, with_word as word_added};
-ghost use Rattle.cpl_base.specs.Numerals.{cut_at};
-ghost use Rattle.cpl_runseq.specs.Words.{texts};
+ghost use Rattle.cpl_base.specs.Numerals.{cut_at, signed_part};
+ghost use Rattle.cpl_config.specs.Kept.{texts};
 
 use crate::faults::SeqFault;
 use crate::link_line::Method;

@@ -7,7 +7,7 @@ ghost use Rattle.cpl_runseq.specs.Sayings.{said as saying};
 ghost use Rattle.cpl_runseq.specs.Steps.{join_if_any, reading_of, row_read, rows_read, stepped};
 ghost use Rattle.cpl_runseq.specs.Unrolled.{unrolled};
 ghost use Rattle.cpl_runseq.specs.Whole.{kept, kept_tops, nothing_read, result_map, sequence_by, sequence_of, with_tops};
-ghost use Rattle.cpl_runseq.specs.Words.{texts};
+ghost use Rattle.cpl_config.specs.Kept.{texts};
 
 use crate::elements::{add_link, add_run};
 use crate::faults::SeqFault;

@@ -3,7 +3,7 @@
 ghost use Rattle.std.specs.Prelude.{◌≡◌};
 ghost use Rattle.cpl_runseq.specs.Sayings.{loop_said as loop_saying, may_be_first as may_be, link_said as link_saying, one_said as one_saying, said as saying, saying_of, step_and_duration as parts_of_opening, step_in as step_of, two_said as two_saying};
 ghost use Rattle.cpl_base.specs.Numerals.{cut_at};
-ghost use Rattle.cpl_runseq.specs.Words.{texts};
+ghost use Rattle.cpl_config.specs.Kept.{texts};
 
 use crate::numbers::number_up_to;
 use crate::said::Said;

@@ -1,7 +1,8 @@
 //! The words of a row: `->` is a word of its own, even where it touches others.
 
 ghost use Rattle.std.specs.Prelude.{◌≡◌, ◌++◌, [], IfOk, OnOk, option_map};
-ghost use Rattle.cpl_runseq.specs.Words.{cut_arrow as cut_at_arrow, cut_behind, is_arrow as are_arrow, texts, word_if_any, words_of};
+ghost use Rattle.cpl_config.specs.Kept.{texts};
+ghost use Rattle.cpl_runseq.specs.Words.{cut_arrow as cut_at_arrow, cut_behind, is_arrow as are_arrow, word_if_any, words_of};
 
 use cpl_base::Memory;
 use cpl_config::Row;

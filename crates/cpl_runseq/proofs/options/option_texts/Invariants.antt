@@ -1,7 +1,7 @@
 use Rattle.std.proofs.Common.{◌≡◌, drop}
 use Rattle.std.specs.Prelude.{fold}
 use Rattle.cpl_runseq.specs.Options.{texts_told, with_word}
-use Rattle.cpl_runseq.specs.Words.{texts}
+use Rattle.cpl_config.specs.Kept.{texts}
 use Rattle.cpl_runseq.proofs.options.option_texts.Given as goal
 
 -- the words that are left, behind the options so far, are the whole

@@ -1,7 +1,8 @@
 use Rattle.std.proofs.Common.{[], ◌∷◌, ◌++◌, ℕ, List, sym, ap, ◌∙◌, append_assoc}
 use Rattle.std.proofs.lemmas.List.{map_push}
 use Rattle.std.specs.Borrow.{Bor}
-use Rattle.cpl_runseq.specs.Words.{arrow, cut_behind, texts, word_if_any}
+use Rattle.cpl_config.specs.Kept.{texts}
+use Rattle.cpl_runseq.specs.Words.{arrow, cut_behind, word_if_any}
 use Rattle.cpl_runseq.proofs.Arrows.{cut_missed, cut_none, cut_some}
 use Rattle.cpl_runseq.proofs.words.push_words.Goals as goal
 

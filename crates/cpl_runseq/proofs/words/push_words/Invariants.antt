@@ -1,5 +1,6 @@
 use Rattle.std.proofs.Common.{◌≡◌, [], ◌++◌, length}
-use Rattle.cpl_runseq.specs.Words.{cut_behind, texts}
+use Rattle.cpl_config.specs.Kept.{texts}
+use Rattle.cpl_runseq.specs.Words.{cut_behind}
 use Rattle.cpl_runseq.proofs.words.push_words.Given as goal
 
 -- the words so far and those of the rest are all

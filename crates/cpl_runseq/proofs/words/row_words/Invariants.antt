@@ -1,5 +1,6 @@
 use Rattle.std.proofs.Common.{◌≡◌, ◌++◌, drop}
-use Rattle.cpl_runseq.specs.Words.{texts, words_of}
+use Rattle.cpl_config.specs.Kept.{texts}
+use Rattle.cpl_runseq.specs.Words.{words_of}
 use Rattle.cpl_runseq.proofs.words.row_words.Given as goal
 
 -- the words so far and those of what is left are all
