@@ -6,7 +6,7 @@ ghost use Rattle.cpl_runseq.specs.Asked.{AreFew, HasFewPhases};
 ghost use Rattle.cpl_runseq.specs.Causes.{IsCaused};
 ghost use Rattle.cpl_runseq.specs.Links.{link_at};
 ghost use Rattle.cpl_runseq.specs.Options.{transfer_told};
-ghost use Rattle.cpl_runseq.specs.Steps.{agrees as agrees_with, component_of as component_at, connected, fits_step as fits, link_in as link_at_row, linked, phase_of as phase_at, ran, reading_of, run_in as run_at, same_method as is_same_method, substep_of as substep_at};
+ghost use Rattle.cpl_runseq.specs.Steps.{agrees as agrees_with, component_of as component_at, connected, fits_step as fits, link_in as link_at_row, linked, phase_of as phase_at, ran, reading_of, run_in as run_at, substep_of as substep_at};
 ghost use Rattle.cpl_config.specs.Kept.{texts};
 
 use crate::element::Element;
@@ -108,16 +108,6 @@ fn run_in(
     })
 }
 
-/// Whether two methods are the same.
-fn same_method(first: Method, other: Method) -> bool
-    ensures { result ≡ is_same_method first other }
-{
-    match (first, other) {
-        (Method::Redist, Method::Redist) | (Method::Weights, Method::Weights) => true,
-        (Method::Redist, Method::Weights) | (Method::Weights, Method::Redist) => false,
-    }
-}
-
 /// Whether a later line of a connector agrees with the first.
 fn agrees(options: &[&[u8]], t: Transfer<'_>, first: Option<&LinkLine>) -> bool
     ensures { result ≡ agrees_with (texts options.now) (transfer_told t.entry) (option_copied first.entry) }
@@ -128,9 +118,7 @@ fn agrees(options: &[&[u8]], t: Transfer<'_>, first: Option<&LinkLine>) -> bool
     match first {
         None => false,
         Some(first) => {
-            same_method(first.method, t.method)
-                && first.file.bytes() == t.file
-                && first.terms == t.terms
+            first.method == t.method && first.file.bytes() == t.file && first.terms == t.terms
         }
     }
 }
@@ -150,7 +138,7 @@ fn new_link(
     ensures ok { IfOk result (λ place. connected links.old line src dst [] (transfer_told t.entry) None ≡ Ok (place, links.new)) }
     ensures fault { IfErr result (IsCaused (connected links.old line src dst [] (transfer_told t.entry) None)) }
 {
-    if !same_method(t.method, Method::Redist) {
+    if t.method != Method::Redist {
         return Err(SeqFault::NotYetBuilt { line });
     }
     let place = links.add(LinkLine {

@@ -55,12 +55,7 @@ fn total(loops: &[ReadLoop]) -> u128
 fn has_rest(loops: &[ReadLoop]) -> bool
     ensures { result ≡ rest_in loops.now }
 {
-    for l in loops {
-        if l.given.is_none() {
-            return true;
-        }
-    }
-    false
+    loops.iter().any(|l| l.given.is_none())
 }
 
 /// The durations make up the span, or leave something of it where a loop takes the rest.
