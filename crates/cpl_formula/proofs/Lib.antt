@@ -1,6 +1,3 @@
-pub mod Derived
-pub mod Each
-pub mod Over
-pub mod Pieces
-pub mod Places
-pub mod Texts
+pub mod Facts
+pub mod SameRead
+pub mod Standing

@@ -1,4 +1,7 @@
-pub mod Derivations
+pub mod Formulas
+pub mod Grammar
+pub mod Reads
 pub mod Rows
-pub mod Sums
+pub mod Steps
+pub mod Tokens
 pub mod Tree

@@ -3,14 +3,14 @@
 ghost use Rattle.std.specs.Prelude.{◌≡◌};
 ghost use Rattle.cpl_formula.specs.declared.formula.FormulaFault.TheVariants.{Memory as OutOfMemory};
 
-use cpl_base::{Many, Memory};
+use cpl_base::{Many, Memory, Text};
 use sqlite_items::Boxed;
 use std::alloc::{AllocError, AllocFailed};
 use thiserror::Error;
 
 /// What a formula reads at a cell: a field by its place among the fields, one of the numbers that a
 /// cell and a moment have, or an alarm by its place among the alarms.
-#[derive(Clone, Copy, Debug, PartialEq, Eq)]
+#[derive(Clone, Copy, Debug, PartialEq, Eq, Hash)]
 pub enum ReadName {
     Field(u16),
     I,
@@ -31,7 +31,7 @@ pub enum ReadName {
 }
 
 /// A read, at the cell itself or at a neighbour so many columns and rows away.
-#[derive(Clone, Copy, Debug, PartialEq, Eq)]
+#[derive(Clone, Copy, Debug, PartialEq, Eq, Hash)]
 pub struct Read {
     pub name: ReadName,
     pub dx: i8,
@@ -43,7 +43,15 @@ pub struct Read {
 pub enum Formula {
     Number(i64),
     Input(u32),
+    Minus(Boxed<Formula>),
+    Abs(Boxed<Formula>),
     Plus(Boxed<Formula>, Boxed<Formula>),
+    Less(Boxed<Formula>, Boxed<Formula>),
+    Times(Boxed<Formula>, Boxed<Formula>),
+    Over(Boxed<Formula>, Boxed<Formula>),
+    Min(Boxed<Formula>, Boxed<Formula>),
+    Max(Boxed<Formula>, Boxed<Formula>),
+    Select(Boxed<Formula>, Boxed<Formula>, Boxed<Formula>),
 }
 
 /// A text that was read: its tree, and what the tree's inputs stand for, each once, in the order in
@@ -54,12 +62,31 @@ pub struct Parsed {
     pub reads: Many<Read>,
 }
 
-/// Why a text wasn't read.
+/// The label of a native entry, and how many inputs it takes.
+#[derive(Debug, Drop)]
+pub struct EntrySign {
+    pub label: Text,
+    pub inputs: u8,
+}
+
+/// Why a text wasn't read. Places count the text's bytes from 0.
 #[derive(Clone, Copy, Debug, PartialEq, Eq, Error)]
 pub enum FormulaFault {
-    /// It isn't one to 32 numbers and fields, joined by `+`.
-    #[error("formulas of this kind are not built yet")]
-    NotYetBuilt,
+    /// No formula goes on with the token here, or the text ends too early and this is its length.
+    #[error("no formula goes on so at byte {at}")]
+    Syntax { at: u32 },
+    /// A number here has more than six places, or is past the range of values.
+    #[error("the number at byte {at} is no value")]
+    BadNumber { at: u32 },
+    /// A name here stands for nothing, or has brackets and is no field's.
+    #[error("the name at byte {at} stands for nothing")]
+    NameUnknown { at: u32 },
+    /// An offset here isn't from -2 to 2.
+    #[error("the neighbour at byte {at} is too far away")]
+    FarNeighbour { at: u32 },
+    /// More than 32 `(` are open, more than 32 minus signs stand in a row, or the depth is above 32.
+    #[error("the formula is too deep")]
+    DeepFormula,
     /// Want of memory.
     #[error("out of memory")]
     Memory,

@@ -4,13 +4,14 @@
 //! matter of this crate.
 #![tactic(auto)]
 
-mod atoms;
 mod formula;
-mod reading;
+mod reads;
 mod rows;
+mod state;
+mod stop;
+mod tokens;
 mod worth;
 
-pub use formula::{Formula, FormulaFault, Parsed, Read, ReadName};
-pub use reading::parse;
+pub use formula::{EntrySign, Formula, FormulaFault, Parsed, Read, ReadName};
 pub use rows::formula_rows;
 pub use worth::value;

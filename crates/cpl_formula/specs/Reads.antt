@@ -1,0 +1,42 @@
+-- What formulas read, and each read once.
+use Rattle.std.specs.Prelude.{ℕ, ℤ, Bool, true, false, ◌&&◌, nat_eq, if◌then◌else◌, List, [], ◌∷◌, ◌++◌, fold}
+use Rattle.std.specs.List.{list_any}
+use Rattle.std.specs.Ordering.{int_eq}
+use Rattle.cpl_formula.specs.declared.formula.Read.{Read}
+use Rattle.cpl_formula.specs.declared.formula.ReadName.{ReadName}
+use Rattle.cpl_formula.specs.declared.formula.ReadName.TheVariants.{Field, I, J, S, Nx, Ny, Year, Month, Day, Hour, Minute, Second, Days, DaySecond, Dt, Ring}
+
+abbrev pub read_at : ReadName → ℤ → ℤ → Read
+read_at name dx dy = record { name = name; dx = dx; dy = dy }
+
+-- whether two names are the same
+abbrev pub same_name : ReadName → ReadName → Bool
+same_name (Field k) (Field l) = nat_eq k l
+same_name I I = true
+same_name J J = true
+same_name S S = true
+same_name Nx Nx = true
+same_name Ny Ny = true
+same_name Year Year = true
+same_name Month Month = true
+same_name Day Day = true
+same_name Hour Hour = true
+same_name Minute Minute = true
+same_name Second Second = true
+same_name Days Days = true
+same_name DaySecond DaySecond = true
+same_name Dt Dt = true
+same_name (Ring k) (Ring l) = nat_eq k l
+same_name a b = false
+
+-- whether two reads are the same
+abbrev pub same_read : Read → Read → Bool
+same_read a b = same_name a.name b.name && (int_eq a.dx b.dx && int_eq a.dy b.dy)
+
+-- a read behind those that stand already, if it doesn't stand among them
+abbrev pub noted : List Read → Read → List Read
+noted reads r = if list_any (same_read r) reads then reads else reads ++ r ∷ []
+
+-- each read once, where it first stands
+abbrev pub distinct : List Read → List Read
+distinct reads = fold noted [] reads
