@@ -1,5 +1,6 @@
 pub mod Formulas
 pub mod Grammar
+pub mod Levels
 pub mod Reads
 pub mod Rows
 pub mod Steps

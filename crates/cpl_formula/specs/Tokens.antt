@@ -1,7 +1,8 @@
 -- How a text is cut into tokens, each as long as it can be, and what they stand for.
-use Rattle.std.specs.Prelude.{ℕ, zero, suc, pred, ℤ, ◌+◌, ◌-◌, ◌==◌, Bool, true, false, ◌&&◌, ◌||◌, if◌then◌else◌, nat_le, nat_lt, List, [], ◌∷◌, length, take, drop, take_while, position, codes, Option, Some, None, Result, Ok, Err}
+use Rattle.std.specs.Prelude.{ℕ, zero, suc, pred, ℤ, ◌+◌, ◌-◌, ◌<◌, ◌==◌, Bool, true, false, ◌&&◌, ◌||◌, if◌then◌else◌, nat_le, nat_lt, List, [], ◌∷◌, length, take, drop, take_while, position, codes, Option, Some, None, Result, Ok, Err}
 use Rattle.std.specs.Map.{lookup}
 use Rattle.std.specs.Str.{bytes_eq}
+use Rattle.cpl_base.specs.Numbers.{IsValue}
 use Rattle.cpl_base.specs.Numerals.{is_digit, value_of}
 use Rattle.cpl_base.specs.Words.{is_blank}
 use Rattle.cpl_base.specs.declared.value.ValFault.{ValFault}
@@ -131,6 +132,12 @@ token_of fields alarms (c ∷ more) bracketed =
 abbrev pub is_bracketed : List ℕ → Bool
 is_bracketed [] = false
 is_bracketed (c ∷ more) = if is_blank c then is_bracketed more else c == 91
+
+-- a digit is below ten, and a longer number is a value
+abbrev pub IsNumberInRange : Token → Type 0
+IsNumberInRange (Digit d) = d < 10
+IsNumberInRange (Number z) = IsValue z
+IsNumberInRange t = Unit {0}
 
 -- ---- a whole text
 

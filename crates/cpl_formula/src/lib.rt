@@ -5,9 +5,12 @@
 #![tactic(auto)]
 
 mod formula;
+mod lexing;
+mod parts;
 mod reads;
 mod rows;
 mod state;
+mod steps;
 mod stop;
 mod tokens;
 mod worth;
