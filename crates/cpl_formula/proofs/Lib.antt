@@ -1,7 +1,15 @@
 pub mod Complete
+pub mod CutParts
 pub mod Facts
+pub mod FinalReads
+pub mod Judging
 pub mod Onward
+pub mod Outcomes
+pub mod Over
 pub mod SameRead
+pub mod Shown
 pub mod Spelled
 pub mod Standing
+pub mod Stepping
 pub mod TextSteps
+pub mod Walking

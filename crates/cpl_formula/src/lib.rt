@@ -7,6 +7,7 @@
 mod formula;
 mod lexing;
 mod parts;
+mod reading;
 mod reads;
 mod rows;
 mod state;
@@ -16,5 +17,6 @@ mod tokens;
 mod worth;
 
 pub use formula::{EntrySign, Formula, FormulaFault, Parsed, Read, ReadName};
+pub use reading::parse;
 pub use rows::formula_rows;
 pub use worth::value;

@@ -1,10 +1,12 @@
 //! One step of reading: from a state and a token to the next state, or why no formula goes on so.
 
-ghost use Rattle.std.specs.Prelude.{◌≡◌, ◌<◌, ◌^◌, IfOk, [], length};
-ghost use Rattle.cpl_formula.specs.Levels.{StepGives, product_join as product_join_of, sum_join as sum_join_of};
+ghost use Rattle.std.specs.Prelude.{◌≡◌, ◌+◌, ◌<◌, ◌≤◌, ◌^◌, IfOk, List, length};
+ghost use Rattle.cpl_formula.specs.Levels.{StepGives, ending_read, here as here_of, product_join as product_join_of, sum_join as sum_join_of};
 ghost use Rattle.cpl_formula.specs.Reads.{noted};
 ghost use Rattle.cpl_formula.specs.Grammar.{input_of};
-ghost use Rattle.cpl_formula.specs.Steps.{behind as behind_of, between as between_of, called as called_of, close as close_of, closed as closed_of, column as column_of, comma as comma_of, continued as continued_of, ending as ending_of, expr_at as expr_at_of, fresh as fresh_of, leaf as leaf_of, named as named_of, near as near_of, opened as opened_of, opening_of as opening_for, row as row_of, split_last, negated as negated_of, start as start_of, state as state_of, step as step_of, term_at as term_at_of, wanted as wanted_of, with_product as with_product_of, with_sum as with_sum_of};
+ghost use Rattle.cpl_formula.specs.Steps.{behind as behind_of, between as between_of, called as called_of, close as close_of, closed as closed_of, column as column_of, comma as comma_of, continued as continued_of, expr_at as expr_at_of, fresh as fresh_of, leaf as leaf_of, named as named_of, near as near_of, opened as opened_of, opening_of as opening_for, row as row_of, split_last, negated as negated_of, start as start_of, state as state_of, step as step_of, term_at as term_at_of, wanted as wanted_of, with_product as with_product_of, with_sum as with_sum_of};
+
+ghost use Rattle.cpl_formula.specs.declared.formula.Read.{Read as ReadValue};
 
 use crate::formula::{Formula, Read, ReadName};
 use crate::parts::{Wrap, Join, around, chosen, joined, leaf, negated, one_more};
@@ -117,7 +119,7 @@ fn term_at(
 }
 
 /// The expr that an operand ends.
-fn expr_at(alloc: Global, level: Level, operand: Part) -> Result<Part, AllocError>
+pub fn expr_at(alloc: Global, level: Level, operand: Part) -> Result<Part, AllocError>
     ensures { IfOk result (λ part. part ≡ expr_at_of level operand) }
 {
     let Level {
@@ -183,10 +185,11 @@ fn opened(
 }
 
 /// The part that a read is.
-fn read_part(reads: &mut IndexSet<Read>, read: Read) -> Result<Part, AllocFailed<Read>>
+pub fn read_part(reads: &mut IndexSet<Read>, read: Read) -> Result<Part, AllocFailed<Read>>
     requires { length reads.old.keys < 2 ^ 32 }
     ensures part { IfOk result (λ part. part ≡ leaf_of (input_of reads.old.keys read)) }
     ensures reads { IfOk result (λ part. reads.new.keys ≡ noted reads.old.keys read) }
+    ensures few { IfOk result (λ part. length reads.new.keys ≤ length reads.old.keys + 1) }
 {
     let place = note(reads, read)?;
     Ok(leaf(Formula::Input(place)))
@@ -200,7 +203,8 @@ fn wanted(
     token: Token,
 ) -> Result<State, Stop>
     requires { length reads.old.keys < 2 ^ 32 }
-    ensures { StepGives result reads.new.keys (wanted_of reads.old.keys frames level token) }
+    ensures gives { StepGives result reads.new.keys (wanted_of reads.old.keys frames level token) }
+    ensures few { IfOk result (λ next. length reads.new.keys ≤ length reads.old.keys + 1) }
 {
     let mode = match token {
         Token::Sum(SumSign::Less) => {
@@ -239,7 +243,7 @@ fn column(
     minus: bool,
     token: Token,
 ) -> Result<State, Stop>
-    ensures { StepGives result [] (column_of [] frames level field minus token) }
+    ensures { (reads : List ReadValue) → StepGives result reads (column_of reads frames level field minus token) }
 {
     let mode = match token {
         Token::Digit(digit) => Mode::Between {
@@ -250,4 +254,225 @@ fn column(
         _ => return Err(Stop::Syntax),
     };
     Ok(State::of(frames, level, mode))
+}
+
+/// Behind the column's offset.
+fn between(
+    frames: Many<Frame>,
+    level: Level,
+    field: u16,
+    dx: i8,
+    token: Token,
+) -> Result<State, Stop>
+    ensures { (reads : List ReadValue) → StepGives result reads (between_of reads frames level field dx token) }
+{
+    match token {
+        Token::Comma => {
+            let mode = Mode::Row {
+                field,
+                dx,
+                minus: false,
+            };
+            Ok(State::of(frames, level, mode))
+        }
+        _ => Err(Stop::Syntax),
+    }
+}
+
+/// Before the digit of the row's offset.
+fn row(
+    frames: Many<Frame>,
+    level: Level,
+    field: u16,
+    dx: i8,
+    minus: bool,
+    token: Token,
+) -> Result<State, Stop>
+    ensures { (reads : List ReadValue) → StepGives result reads (row_of reads frames level field dx minus token) }
+{
+    let mode = match token {
+        Token::Digit(digit) => Mode::Ending {
+            field,
+            dx,
+            dy: near(minus, digit)?,
+        },
+        Token::Sum(SumSign::Less) if !minus => Mode::Row {
+            field,
+            dx,
+            minus: true,
+        },
+        _ => return Err(Stop::Syntax),
+    };
+    Ok(State::of(frames, level, mode))
+}
+
+/// Behind the offsets.
+fn ending(
+    reads: &mut IndexSet<Read>,
+    frames: Many<Frame>,
+    level: Level,
+    read: Read,
+    token: Token,
+) -> Result<State, Stop>
+    requires { length reads.old.keys < 2 ^ 32 }
+    ensures gives { StepGives result reads.new.keys (ending_read reads.old.keys frames level read token) }
+    ensures few { IfOk result (λ next. length reads.new.keys ≤ length reads.old.keys + 1) }
+{
+    match token {
+        Token::CloseBracket => {
+            let part = read_part(reads, read)?;
+            Ok(State::of(frames, level, Mode::Behind(part)))
+        }
+        _ => Err(Stop::Syntax),
+    }
+}
+
+/// The last bracket that is open, and those around it.
+fn innermost(frames: Many<Frame>) -> Option<(Many<Frame>, Frame)>
+    ensures { result ≡ split_last frames }
+{
+    let mut frames = frames.into_items();
+    let last = frames.pop()?;
+    Some((Many::of(frames), last))
+}
+
+/// A `)` behind an expression.
+fn close(alloc: Global, frames: Many<Frame>, argument: Part) -> Result<State, Stop>
+    ensures { (reads : List ReadValue) → StepGives result reads (close_of reads argument (split_last frames)) }
+{
+    let (frames, frame) = innermost(frames).ok_or(Stop::Syntax)?;
+    let Frame { level, opening } = frame;
+    match closed(alloc, opening, argument)? {
+        Some(part) => Ok(State::of(frames, level, Mode::Behind(part))),
+        None => Err(Stop::Syntax),
+    }
+}
+
+/// A `,` behind an expression.
+fn comma(frames: Many<Frame>, argument: Part) -> Result<State, Stop>
+    ensures { (reads : List ReadValue) → StepGives result reads (comma_of reads argument (split_last frames)) }
+{
+    let (frames, frame) = innermost(frames).ok_or(Stop::Syntax)?;
+    let Frame { level, opening } = frame;
+    match continued(opening, argument) {
+        Some(opening) => Ok(opened(frames, level, opening)?),
+        None => Err(Stop::Syntax),
+    }
+}
+
+/// Behind an operand.
+fn behind(
+    alloc: Global,
+    frames: Many<Frame>,
+    level: Level,
+    operand: Part,
+    token: Token,
+) -> Result<State, Stop>
+    ensures { (reads : List ReadValue) → StepGives result reads (behind_of reads frames level operand token) }
+{
+    match token {
+        Token::Sum(sign) => {
+            let left = expr_at(alloc, level, operand)?;
+            let level = Level {
+                sum: Some(Sum { left, sign }),
+                product: None,
+                minus: 0,
+            };
+            Ok(State::of(frames, level, Mode::Wanted))
+        }
+        Token::Product(sign) => {
+            let left = term_at(alloc, level.product, level.minus, operand)?;
+            let level = Level {
+                sum: level.sum,
+                product: Some(Product { left, sign }),
+                minus: 0,
+            };
+            Ok(State::of(frames, level, Mode::Wanted))
+        }
+        Token::Close => close(alloc, frames, expr_at(alloc, level, operand)?),
+        Token::Comma => comma(frames, expr_at(alloc, level, operand)?),
+        _ => Err(Stop::Syntax),
+    }
+}
+
+/// A field at the cell itself.
+pub fn here(field: u16) -> Read
+    ensures { result ≡ here_of field }
+{
+    Read {
+        name: ReadName::Field(field),
+        dx: 0,
+        dy: 0,
+    }
+}
+
+/// Behind a field's name: a read at the cell itself, unless brackets follow.
+fn named(
+    alloc: Global,
+    reads: &mut IndexSet<Read>,
+    frames: Many<Frame>,
+    level: Level,
+    field: u16,
+    token: Token,
+) -> Result<State, Stop>
+    requires { length reads.old.keys < 2 ^ 32 }
+    ensures gives { StepGives result reads.new.keys (named_of reads.old.keys frames level field token) }
+    ensures few { IfOk result (λ next. length reads.new.keys ≤ length reads.old.keys + 1) }
+{
+    if let Token::OpenBracket = token {
+        let mode = Mode::Column {
+            field,
+            minus: false,
+        };
+        return Ok(State::of(frames, level, mode));
+    }
+    let operand = read_part(reads, here(field))?;
+    behind(alloc, frames, level, operand, token)
+}
+
+/// Behind a function's name.
+fn called(
+    frames: Many<Frame>,
+    level: Level,
+    function: Function,
+    token: Token,
+) -> Result<State, Stop>
+    ensures { (reads : List ReadValue) → StepGives result reads (called_of reads frames level function token) }
+{
+    match token {
+        Token::Open => Ok(opened(frames, level, opening_of(function))?),
+        _ => Err(Stop::Syntax),
+    }
+}
+
+/// The state behind one more token, or why no formula goes on with it. The reads that the token ends are
+/// noted.
+pub fn step(
+    alloc: Global,
+    reads: &mut IndexSet<Read>,
+    state: State,
+    token: Token,
+) -> Result<State, Stop>
+    requires { length reads.old.keys < 2 ^ 32 }
+    ensures gives { StepGives result reads.new.keys (step_of reads.old.keys state token) }
+    ensures few { IfOk result (λ next. length reads.new.keys ≤ length reads.old.keys + 1) }
+{
+    let State {
+        frames,
+        level,
+        mode,
+    } = state;
+    match mode {
+        Mode::Wanted => wanted(reads, frames, level, token),
+        Mode::Called(function) => called(frames, level, function, token),
+        Mode::Named(field) => named(alloc, reads, frames, level, field, token),
+        Mode::Column { field, minus } => column(frames, level, field, minus, token),
+        Mode::Between { field, dx } => between(frames, level, field, dx, token),
+        Mode::Row { field, dx, minus } => row(frames, level, field, dx, minus, token),
+        Mode::Ending { field, dx, dy } => {
+            let name = ReadName::Field(field);
+            ending(reads, frames, level, Read { name, dx, dy }, token)
+        }
+        Mode::Behind(operand) => behind(alloc, frames, level, operand, token),
+    }
 }

@@ -4,4 +4,4 @@ use Rattle.cpl_formula.specs.Steps.{negated}
 use Rattle.cpl_formula.proofs.parts.negated.Given as goal
 
 abbrev pub invariant-loop : goal.invariant-loop
-invariant-loop l = l.part ≡ negated l._ l.operand
+invariant-loop l = l.part ≡ negated l.counter l.fn.operand
