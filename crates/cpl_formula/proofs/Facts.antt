@@ -56,7 +56,7 @@ pub wanted_takes : (ts : List Token) (s : Standing) → go beginning ts ≡ Some
 wanted_takes ts s goes is_wanted a =
     let same : s ≡ standing s.brackets s.waits wanted s.done = ap (λ place. standing s.brackets s.waits place s.done) is_wanted in
     let runs : run s (spelled_atom a ++ []) ≡ Some (standing s.brackets s.waits (behind a) (s.done ++ reads_of_atom a)) =
-        ap (λ from. run from (spelled_atom a ++ [])) same ∙ run_atom a s.brackets s.waits s.done [] tt in
+    ap (λ from. run from (spelled_atom a ++ [])) same ∙ run_atom a s.brackets s.waits s.done [] tt in
     let behind_atom = unsettled (go s (spelled_atom a)) (standing s.brackets s.waits (behind a) (s.done ++ reads_of_atom a)) (rw append-nil at runs) in
     go_begins (ts ++ spelled_atom a) behind_atom.0 (go_over ts (spelled_atom a) beginning s goes ∙ behind_atom.1)
 

@@ -3,7 +3,6 @@ use Rattle.std.proofs.Common.{◌≡◌, ℕ, Bool, true, false, inl, inr, List,
 use Rattle.std.specs.Prelude.{fold}
 use Rattle.cpl_formula.specs.Formulas.{kinds, Begins, TakesAtoms, IsWhere, IsJudged, minus_or, begin_of_offset}
 use Rattle.cpl_formula.specs.Grammar.{Expr, Atom, Near, Offset}
-use Rattle.cpl_formula.specs.Grammar.Near.{none}
 use Rattle.cpl_formula.specs.Grammar.Atom.{field}
 use Rattle.cpl_formula.specs.Steps.{located}
 use Rattle.cpl_formula.specs.Tokens.{Placed}

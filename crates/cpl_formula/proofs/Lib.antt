@@ -6,10 +6,13 @@ pub mod Judging
 pub mod Onward
 pub mod Outcomes
 pub mod Over
+pub mod ReadOver
 pub mod SameRead
 pub mod Shown
 pub mod Spelled
 pub mod Standing
 pub mod Stepping
 pub mod TextSteps
+pub mod TextWalk
+pub mod TokenCases
 pub mod Walking

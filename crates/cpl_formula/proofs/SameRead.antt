@@ -1,6 +1,6 @@
 -- The comparison of reads that the code makes is the one that the definitions make.
-use Rattle.std.proofs.Common.{◌≡◌, ℤ, Bool, refl, ap}
-use Rattle.cpl_formula.specs.Reads.{same_name, same_read, read_at}
+use Rattle.std.proofs.Common.{◌≡◌, ℤ, refl}
+use Rattle.cpl_formula.specs.Reads.{same_read, read_at}
 use Rattle.cpl_formula.specs.declared.formula.Read.{Read}
 use Rattle.cpl_formula.specs.declared.formula.ReadName.{ReadName}
 use Rattle.cpl_formula.specs.declared.formula.ReadName.TheVariants.{Field, I, J, S, Nx, Ny, Year, Month, Day, Hour, Minute, Second, Days, DaySecond, Dt, Ring}

@@ -1,5 +1,5 @@
 -- Reading with derivations in place of trees: what stands open behind some tokens, as parts of a derivation.
-use Rattle.std.proofs.Common.{◌≡◌, ℕ, zero, suc, ℤ, pos, Bool, true, false, List, [], ◌∷◌, ◌++◌, Option, Some, None}
+use Rattle.std.proofs.Common.{ℕ, zero, suc, pos, Bool, true, false, List, [], ◌∷◌, ◌++◌, Option, Some, None}
 use Rattle.cpl_formula.specs.Grammar.{Expr, Term, Factor, Atom, Offset, Near, shift}
 use Rattle.cpl_formula.specs.Grammar.Expr.{term, sum}
 use Rattle.cpl_formula.specs.Grammar.Term.{factor, product}
@@ -14,7 +14,7 @@ use Rattle.cpl_formula.specs.declared.tokens.Function.{Function}
 use Rattle.cpl_formula.specs.declared.tokens.Function.TheVariants as function
 use Rattle.cpl_formula.specs.declared.tokens.ProductSign.{ProductSign}
 use Rattle.cpl_formula.specs.declared.tokens.SumSign.{SumSign}
-use Rattle.cpl_formula.specs.declared.tokens.SumSign.TheVariants.{Plus, Less}
+use Rattle.cpl_formula.specs.declared.tokens.SumSign.TheVariants.{Less}
 use Rattle.cpl_formula.specs.declared.tokens.Token.{Token}
 use Rattle.cpl_formula.specs.declared.tokens.Token.TheVariants as token
 

@@ -4,7 +4,7 @@ use Rattle.std.proofs.lemmas.Bool.{lt-leb}
 use Rattle.cpl_formula.specs.Grammar.{Expr, Atom, Offset, shift, input_of}
 use Rattle.cpl_formula.specs.Grammar.Atom.{field}
 use Rattle.cpl_formula.specs.Reads.{noted, distinct, read_at}
-use Rattle.cpl_formula.specs.Steps.{At, state, opened, split_last, step, step_by, behind, close, after_close, comma, after_comma, leaf, expr_at}
+use Rattle.cpl_formula.specs.Steps.{At, state, opened, split_last, step, step_by, behind, close, after_close, comma, after_comma, leaf}
 use Rattle.cpl_formula.specs.declared.formula.Read.{Read}
 use Rattle.cpl_formula.specs.declared.formula.ReadName.TheVariants as names
 use Rattle.cpl_formula.specs.declared.state.Frame.{Frame}

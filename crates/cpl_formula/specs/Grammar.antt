@@ -1,5 +1,5 @@
 -- The grammar of formulas: derivations, the tokens that each of them spells, and what it stands for.
-use Rattle.std.specs.Prelude.{ℕ, suc, ℤ, pos, neg_ℤ, ◌*◌, max, Bool, true, false, List, [], ◌∷◌, ◌++◌}
+use Rattle.std.specs.Prelude.{ℕ, suc, ℤ, pos, neg_ℤ, ◌*◌, max, List, [], ◌∷◌, ◌++◌}
 use Rattle.std.specs.List.{position_or_len}
 use Rattle.cpl_base.specs.Numbers.{million}
 use Rattle.cpl_formula.specs.Reads.{same_read, read_at}

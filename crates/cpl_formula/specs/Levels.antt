@@ -1,5 +1,5 @@
 -- The levels that the code makes, as functions of trees; and what its steps answer.
-use Rattle.std.specs.Prelude.{◌≡◌, ℕ, pos, List, Option, Some, None, Result, Ok, Err}
+use Rattle.std.specs.Prelude.{◌≡◌, ℕ, pos, List, Result, Ok, Err}
 use Rattle.cpl_formula.specs.Reads.{read_at}
 use Rattle.cpl_formula.specs.Steps.{At, behind_read}
 use Rattle.cpl_formula.specs.declared.formula.Formula.{Formula, roll-Formula}

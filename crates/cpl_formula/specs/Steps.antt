@@ -1,6 +1,5 @@
 -- Reading one token after another, as the code does: what has been read, and what may come next.
 use Rattle.std.specs.Prelude.{◌≡◌, ℕ, zero, suc, ℤ, pos, ◌+◌, ◌*◌, max, Bool, true, false, if◌then◌else◌, nat_le, nat_lt, List, [], ◌∷◌, ◌++◌, length, Option, Some, None, Result, Ok, Err}
-use Rattle.std.specs.List.{position_or_len}
 use Rattle.cpl_base.specs.Numbers.{million}
 use Rattle.cpl_base.specs.Numerals.{signed}
 use Rattle.cpl_formula.specs.Grammar.{summed, multiplied, input_of}

@@ -5,6 +5,7 @@
 #![tactic(auto)]
 
 mod formula;
+mod laws;
 mod lexing;
 mod parts;
 mod reading;
@@ -17,6 +18,7 @@ mod tokens;
 mod worth;
 
 pub use formula::{EntrySign, Formula, FormulaFault, Parsed, Read, ReadName};
+pub use laws::grammar_laws;
 pub use reading::parse;
 pub use rows::formula_rows;
 pub use worth::value;

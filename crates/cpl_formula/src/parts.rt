@@ -97,10 +97,14 @@ pub fn chosen(alloc: Global, condition: Part, a: Part, b: Part) -> Result<Part, 
     ensures { IfOk result (λ made. made ≡ chosen_of condition a b) }
 {
     let (
-        Part::Kept { tree: condition, depth: l },
+        Part::Kept {
+            tree: condition,
+            depth: l,
+        },
         Part::Kept { tree: a, depth: m },
         Part::Kept { tree: b, depth: n },
-    ) = (condition, a, b) else {
+    ) = (condition, a, b)
+    else {
         return Ok(Part::Deep);
     };
     let deepest = l.max(m.max(n));

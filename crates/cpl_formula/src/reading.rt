@@ -112,6 +112,27 @@ fn finished(
     }
 }
 
+/// What reading makes of a text.
+#[tactic(auto, unfolding(crate::specs::Steps::parsed_of))]
+fn read(
+    alloc: Global,
+    text: &[u8],
+    fields: &[Text],
+    alarms: &[Text],
+) -> Result<Parsed, FormulaFault>
+    requires text { length text.now < 2 ^ 32 }
+    requires fields { length fields.now < 2 ^ 16 }
+    requires alarms { length alarms.now < 2 ^ 16 }
+    ensures { Gives (λ p. p) result (parsed_of fields.now alarms.now text.now) }
+{
+    if is_tangled(text) {
+        return Err(FormulaFault::DeepFormula);
+    }
+    let mut reads = IndexSet::new(alloc);
+    let state = walk(alloc, &mut reads, text, fields, alarms)?;
+    finished(alloc, &mut reads, state, text.len() as u32)
+}
+
 /// Reads the text of a rule as a formula over fields and alarms of these names, in one pass over its bytes
 /// that takes time in their number, whatever they are.
 ///
@@ -136,6 +157,7 @@ pub fn parse(
     requires text { length text.now < 2 ^ 32 }
     requires fields { length fields.now < 2 ^ 16 }
     requires alarms { length alarms.now < 2 ^ 16 }
+    // What reading one token after another gives.
     ensures parsed { Gives (λ p. p) result (parsed_of fields.now alarms.now text.now) }
     // What a text is follows from the derivations of the grammar alone: a formula, or its first fault.
     ensures outcome { OutcomeOf fields.now alarms.now text.now (parsed_of fields.now alarms.now text.now) }
@@ -144,10 +166,5 @@ pub fn parse(
     // What is read can be evaluated at a value for each of its reads.
     ensures over { IfOk result (λ p. IsTrue (is_over (length p.reads) p.tree)) }
 {
-    if is_tangled(text) {
-        return Err(FormulaFault::DeepFormula);
-    }
-    let mut reads = IndexSet::new(alloc);
-    let state = walk(alloc, &mut reads, text, fields, alarms)?;
-    finished(alloc, &mut reads, state, text.len() as u32)
+    read(alloc, text, fields, alarms)
 }

@@ -5,11 +5,10 @@ ghost use Rattle.cpl_formula.specs.Levels.{StepGives, ending_read, here as here_
 ghost use Rattle.cpl_formula.specs.Reads.{noted};
 ghost use Rattle.cpl_formula.specs.Grammar.{input_of};
 ghost use Rattle.cpl_formula.specs.Steps.{behind as behind_of, between as between_of, called as called_of, close as close_of, closed as closed_of, column as column_of, comma as comma_of, continued as continued_of, expr_at as expr_at_of, fresh as fresh_of, leaf as leaf_of, named as named_of, near as near_of, opened as opened_of, opening_of as opening_for, row as row_of, split_last, negated as negated_of, start as start_of, state as state_of, step as step_of, term_at as term_at_of, wanted as wanted_of, with_product as with_product_of, with_sum as with_sum_of};
-
 ghost use Rattle.cpl_formula.specs.declared.formula.Read.{Read as ReadValue};
 
 use crate::formula::{Formula, Read, ReadName};
-use crate::parts::{Wrap, Join, around, chosen, joined, leaf, negated, one_more};
+use crate::parts::{Join, Wrap, around, chosen, joined, leaf, negated, one_more};
 use crate::reads::note;
 use crate::state::{Frame, Level, Mode, Opening, Part, Product, State, Sum};
 use crate::stop::Stop;
@@ -82,11 +81,7 @@ fn product_join(sign: ProductSign) -> Join
 }
 
 /// The product that waits, with its last factor.
-fn with_product(
-    alloc: Global,
-    waits: Option<Product>,
-    right: Part,
-) -> Result<Part, AllocError>
+fn with_product(alloc: Global, waits: Option<Product>, right: Part) -> Result<Part, AllocError>
     ensures { IfOk result (λ part. part ≡ with_product_of waits right) }
 {
     match waits {
@@ -172,11 +167,7 @@ fn continued(opening: Opening, argument: Part) -> Option<Opening>
 }
 
 /// Behind a `(`.
-fn opened(
-    frames: Many<Frame>,
-    level: Level,
-    opening: Opening,
-) -> Result<State, AllocFailed<Frame>>
+fn opened(frames: Many<Frame>, level: Level, opening: Opening) -> Result<State, AllocFailed<Frame>>
     ensures { IfOk result (λ state. state ≡ opened_of frames level opening) }
 {
     let mut frames = frames.into_items();

@@ -1,5 +1,5 @@
 -- The set's comparison of two reads is that of the definition.
-use Rattle.std.proofs.Common.{◌≡◌, ap, ◌∙◌, Bool, List, ◌∷◌, [], ◌++◌, if◌then◌else◌}
+use Rattle.std.proofs.Common.{ap, ◌∙◌, Bool, ◌∷◌, [], ◌++◌, if◌then◌else◌}
 use Rattle.std.specs.List.{list_any, position_or_len}
 use Rattle.cpl_formula.specs.declared.formula.Read.{Read}
 use Rattle.cpl_formula.proofs.SameRead.{same}
