@@ -2,8 +2,17 @@
 use Rattle.std.specs.Prelude.{◌≡◌, ◌*◌, ℕ, zero, suc, ℤ, pos, neg_ℤ, true, List, [], ◌∷◌, ◌++◌, Result, Ok, Err, codes}
 use Rattle.std.specs.Result.{is_ok}
 use Rattle.cpl_base.specs.Numbers.{greatest, million}
+use Rattle.cpl_formula.specs.Formulas.{kinds, parsed}
+use Rattle.cpl_formula.specs.Grammar.{Expr, Term, Atom, depth_of_expr, spelled_expr}
+use Rattle.cpl_formula.specs.Grammar.Atom.{abs, digit, field, group, min_of, neighbour}
+use Rattle.cpl_formula.specs.Grammar.Expr.{sum, term}
+use Rattle.cpl_formula.specs.Grammar.Factor.{atom, minus as minus_of}
+use Rattle.cpl_formula.specs.Grammar.Near.{one, two}
+use Rattle.cpl_formula.specs.Grammar.Offset.{ahead, back}
+use Rattle.cpl_formula.specs.Grammar.Term.{factor, product}
 use Rattle.cpl_formula.specs.Reads.{read_at}
 use Rattle.cpl_formula.specs.Steps.{parsed_of}
+use Rattle.cpl_formula.specs.Tokens.{Placed, tokens_of}
 use Rattle.cpl_formula.specs.Tree.{value_of}
 use Rattle.cpl_formula.specs.declared.formula.Formula.{Formula, roll-Formula}
 use Rattle.cpl_formula.specs.declared.formula.Formula.TheOpen as tree
@@ -12,6 +21,10 @@ use Rattle.cpl_formula.specs.declared.formula.FormulaFault.TheVariants.{Syntax, 
 use Rattle.cpl_formula.specs.declared.formula.Parsed.{Parsed}
 use Rattle.cpl_formula.specs.declared.formula.Read.{Read}
 use Rattle.cpl_formula.specs.declared.formula.ReadName.TheVariants as names
+use Rattle.cpl_formula.specs.declared.tokens.ProductSign.TheVariants.{Times}
+use Rattle.cpl_formula.specs.declared.tokens.SumSign.TheVariants.{Plus, Less}
+use Rattle.cpl_formula.specs.declared.tokens.Token.{Token}
+use Rattle.cpl_formula.specs.declared.tokens.Token.TheVariants as token
 
 -- what is read of a text over the fields `x` and `y` and the alarm `a`
 abbrev pub read : List ℕ → Result Parsed FormulaFault
@@ -170,8 +183,51 @@ pub record FormulaValues : Type 0 where
   pub selected_at_zero : value_of (pos 0 ∷ []) (select (input 0) (units 2) (units 3)) ≡ pos (3 * million)
   pub selected_below : value_of (neg_ℤ (pos 1) ∷ []) (select (input 0) (units 2) (units 3)) ≡ pos (3 * million)
 
+-- ---- derivations
+
+-- the tokens of a text
+abbrev pub tokens : List ℕ → List Placed
+tokens = tokens_of (codes "x" ∷ codes "y" ∷ []) (codes "a" ∷ [])
+
+-- a token at a place
+abbrev pub placed : ℕ → Token → Placed
+placed at token = record { at = at; token = token }
+
+-- an atom as a term, and as an expr
+abbrev pub of_atom : Atom → Term
+of_atom a = factor (atom a)
+
+abbrev pub alone : Atom → Expr
+alone a = term (of_atom a)
+
+-- x - 1 - 2
+abbrev pub chain : Expr
+chain = sum (sum (alone (field 0)) Less (of_atom (digit 1))) Less (of_atom (digit 2))
+
+-- -(x[1,-2] + x * y)
+abbrev pub grouped : Expr
+grouped = term (factor (minus_of (atom (group (sum (alone (neighbour 0 (ahead one) (back two))) Plus (product (of_atom (field 0)) Times (atom (field 1))))))))
+
+-- min(x, abs(y))
+abbrev pub nested : Expr
+nested = alone (min_of (alone (field 0)) (alone (abs (alone (field 1)))))
+
+-- derivations with what they spell and what they stand for
+pub record DerivationRows : Type 0 where
+  pub places : tokens (codes "x[-1, 2]") ≡ placed 0 (token.Field 0) ∷ placed 1 token.OpenBracket ∷ placed 2 (token.Sum Less) ∷ placed 3 (token.Digit 1) ∷ placed 4 token.Comma ∷ placed 6 (token.Digit 2) ∷ placed 7 token.CloseBracket ∷ []
+  pub longest : tokens (codes "x1 1.5x1.") ≡ placed 0 token.Unknown ∷ placed 3 (token.Number (pos 1500000)) ∷ placed 6 token.Unknown ∷ placed 8 token.Stray ∷ []
+  pub chain_spelled : kinds (tokens (codes "x - 1 - 2")) ≡ spelled_expr chain
+  pub chain_parsed : parsed chain ≡ record { tree = less (less (input 0) (units 1)) (units 2); reads = x_here ∷ [] }
+  pub chain_depth : depth_of_expr chain ≡ 3
+  pub grouped_spelled : kinds (tokens (codes "-(x[1,-2] + x * y)")) ≡ spelled_expr grouped
+  pub grouped_parsed : parsed grouped ≡ record { tree = minus (plus (input 0) (times (input 1) (input 2))); reads = read_at (names.Field 0) (pos 1) (neg_ℤ (pos 2)) ∷ x_here ∷ y_here ∷ [] }
+  pub grouped_depth : depth_of_expr grouped ≡ 5
+  pub nested_spelled : kinds (tokens (codes "min(x, abs(y))")) ≡ spelled_expr nested
+  pub nested_depth : depth_of_expr nested ≡ 3
+
 pub record FormulaRows : Type 0 where
   pub texts : FormulaTexts
   pub faulty : FaultyTexts
   pub deep : DeepTexts
   pub values : FormulaValues
+  pub derivations : DerivationRows

@@ -3,7 +3,7 @@ use Rattle.std.proofs.Common.{ℤ, pos, neg_ℤ, [], ◌∷◌, refl}
 use Rattle.std.specs.Fmt.{digits}
 use Rattle.cpl_base.specs.Numbers.{greatest}
 use Rattle.cpl_base.specs.Numerals.{value_of as number_of}
-use Rattle.cpl_formula.specs.Rows.{FormulaTexts, FaultyTexts, DeepTexts, FormulaValues}
+use Rattle.cpl_formula.specs.Rows.{FormulaTexts, FaultyTexts, DeepTexts, FormulaValues, DerivationRows}
 use Rattle.cpl_formula.specs.Steps.{parsed_of}
 use Rattle.cpl_formula.specs.Tree.{value_step}
 use Rattle.cpl_formula.specs.declared.formula.Formula.TheFolds.{fold-roll-Formula}
@@ -107,5 +107,20 @@ values = record {
   selected_below = simp (fold-roll-Formula ℤ (value_step (neg_ℤ (pos 1) ∷ [])));
 }
 
+derivations : DerivationRows
+unfolding number_of digits
+derivations = record {
+  places = refl;
+  longest = refl;
+  chain_spelled = refl;
+  chain_parsed = refl;
+  chain_depth = refl;
+  grouped_spelled = refl;
+  grouped_parsed = refl;
+  grouped_depth = refl;
+  nested_spelled = refl;
+  nested_depth = refl;
+}
+
 pub returns : goal.returns
-returns c = record { texts = texts; faulty = faulty; deep = deep; values = values }
+returns c = record { texts = texts; faulty = faulty; deep = deep; values = values; derivations = derivations }
