@@ -3,24 +3,42 @@ use Rattle.std.proofs.Common.{◌≡◌, ℤ, pos, ◌+ℤ◌, [], ◌∷◌, le
 use Rattle.std.specs.Fmt.{digits}
 use Rattle.cpl_base.specs.Numbers.{clip}
 use Rattle.cpl_base.specs.Numerals.{value_of as number_of, written}
-use Rattle.cpl_formula.specs.Sums.{atom_of, atoms_of, parsed_of}
+use Rattle.cpl_formula.specs.Steps.{parsed_of}
 use Rattle.cpl_formula.specs.Tree.{value_step}
 use Rattle.cpl_formula.specs.declared.formula.Formula.TheFolds.{fold-roll-Formula}
 use Rattle.cpl_driver.specs.Answers.{Reply, answer, reply_for, report}
-use Rattle.cpl_driver.specs.Files.{line, lines_of, loop_in, loop_of, rule_of, system_in, system_of, variable_of}
-use Rattle.cpl_driver.specs.Rows.{counted, counting, counting_end, counting_system, doubled, doubling, doubling_end, doubling_system, run_of}
+use Rattle.cpl_driver.specs.Files.{line, lines_of, loop_in, loop_of, rule_of, sum_of, system_in, system_of, variable_of}
+use Rattle.cpl_driver.specs.Rows.{RuleRows, counted, counting, counting_end, counting_system, doubled, doubling, doubling_end, doubling_system, run_of}
 use Rattle.cpl_driver.specs.Runs.{operations, ruled, serial}
 use Rattle.cpl_driver.specs.declared.status.Status.TheVariants as status
 
 -- what the files describe
 pub counting_is : system_of counting ≡ Some counting_system
-unfolding system_of system_in lines_of line variable_of rule_of loop_of loop_in parsed_of atoms_of atom_of number_of digits
+unfolding system_of system_in lines_of line variable_of rule_of loop_of loop_in sum_of parsed_of number_of digits
 counting_is = refl
 
 -- and the other
 pub doubling_is : system_of doubling ≡ Some doubling_system
-unfolding system_of system_in lines_of line variable_of rule_of loop_of loop_in parsed_of atoms_of atom_of number_of digits
+unfolding system_of system_in lines_of line variable_of rule_of loop_of loop_in sum_of parsed_of number_of digits
 doubling_is = refl
+
+-- which rules there are
+pub rules_are : RuleRows
+unfolding system_of system_in lines_of line variable_of rule_of loop_of loop_in sum_of parsed_of number_of digits
+rules_are = record {
+  number_alone = refl;
+  atoms_32 = refl;
+  atoms_33 = refl;
+  difference = refl;
+  quantity = refl;
+  neighbour = refl;
+  brackets = refl;
+  two_atoms = refl;
+  unknown = refl;
+  plus_last = refl;
+  point_last = refl;
+  seven_places = refl;
+}
 
 -- the rules, at any value
 counts_on : (x : ℤ) → ruled counting_system x ≡ clip (x +ℤ pos 1000000)

@@ -1,14 +1,18 @@
 -- The system that the bytes of a resource file describe: today one component on one cell, with one
 -- variable, one formula and one time loop.
-use Rattle.std.specs.Prelude.{ℕ, ℤ, Bool, false, not, ◌&&◌, ◌||◌, ◌==◌, ◌%◌, ◌/◌, if◌then◌else◌, nat_le, nat_lt, List, [], ◌∷◌, ◌++◌, length, filter, map, codes, slice_index_or, Option, Some, None}
+use Rattle.std.specs.Prelude.{ℕ, ℤ, Bool, true, false, not, ◌&&◌, ◌||◌, ◌==◌, ◌%◌, ◌/◌, if◌then◌else◌, nat_le, nat_lt, List, [], ◌∷◌, ◌++◌, length, filter, map, codes, slice_index_or, Option, Some, None}
 use Rattle.std.specs.List.{slice_split, list_all, join_with_byte}
+use Rattle.std.specs.Result.{result_ok}
 use Rattle.std.specs.Str.{bytes_eq}
 use Rattle.cpl_base.specs.Chain.{◌>>=◌, when, only}
 use Rattle.cpl_base.specs.Numerals.{cut_at}
 use Rattle.cpl_base.specs.Words.{is_some_of, words_of}
 use Rattle.cpl_formula.specs.declared.formula.Parsed.{Parsed}
-use Rattle.cpl_formula.specs.Sums.{constant_of, parsed_of}
-use Rattle.cpl_driver.specs.Names.{behind, closes, is_field_name, is_name, is_word, number_word, opens, values_of}
+use Rattle.cpl_formula.specs.declared.formula.Read.{Read}
+use Rattle.cpl_formula.specs.declared.formula.ReadName.{ReadName}
+use Rattle.cpl_formula.specs.declared.formula.ReadName.TheVariants.{Field}
+use Rattle.cpl_formula.specs.Steps.{parsed_of}
+use Rattle.cpl_driver.specs.Names.{behind, closes, constant_of, is_field_name, is_name, is_name_byte, is_word, number_word, opens, values_of}
 use Rattle.cpl_driver.specs.declared.system.Loop.{Loop}
 use Rattle.cpl_driver.specs.declared.system.System.{System}
 
@@ -63,13 +67,35 @@ variable_of component lines = do
   _ ← when (closes (line lines 4))
   Some (row.0, start)
 
+-- a byte of a name, a point, a blank or `+`
+abbrev pub is_sum_byte : ℕ → Bool
+is_sum_byte c = is_name_byte c || c == 46 || c == 32 || c == 43
+
+-- whether a name that is read is a field's
+abbrev pub is_field : ReadName → Bool
+is_field (Field place) = true
+is_field other = false
+
+-- whether a field is read
+abbrev pub is_field_read : Read → Bool
+is_field_read read = is_field read.name
+
+-- A rule over this field: one to 32 numbers and names of the field, joined by `+`. Formulas of these bytes
+-- have no other form, and are as deep as they have atoms, up to 32.
+unfoldable pub sum_of : List ℕ → List ℕ → Option Parsed
+sum_of field text = do
+  _ ← when (list_all is_sum_byte text && nat_lt (length text) 4294967296)
+  rule ← result_ok (parsed_of (field ∷ []) [] text)
+  _ ← when (list_all is_field_read rule.reads)
+  Some rule
+
 -- the table of the phase: one row, `FIELD = FORMULA`; the words of a rule are joined by single blanks
 unfoldable pub rule_of : List ℕ → List ℕ → List (List (List ℕ)) → Option Parsed
 rule_of component field lines = do
   _ ← when (opens (component ++ codes "_phase_run") (line lines 5))
   row ← assignment_of (line lines 6)
   _ ← when (bytes_eq row.0 field)
-  rule ← parsed_of (field ∷ []) (join_with_byte 32 row.1)
+  rule ← sum_of field (join_with_byte 32 row.1)
   _ ← when (closes (line lines 7))
   Some rule
 

@@ -1,28 +1,16 @@
 -- Names, number words and labels: what the lines of a resource file are made of.
-use Rattle.std.specs.Prelude.{ℕ, Bool, true, false, not, ◌&&◌, ◌||◌, ◌==◌, if◌then◌else◌, nat_le, List, [], ◌∷◌, ◌++◌, length, map, codes, Option, Some, None}
+use Rattle.std.specs.Prelude.{ℕ, ℤ, Bool, true, false, not, ◌&&◌, ◌||◌, ◌==◌, if◌then◌else◌, nat_le, List, [], ◌∷◌, ◌++◌, length, map, slice_index, codes, Option, Some, None}
 use Rattle.std.specs.Borrow.{Bor}
 use Rattle.std.specs.List.{list_all, list_any}
+use Rattle.std.specs.Result.{result_ok}
 use Rattle.std.specs.Str.{bytes_eq}
-use Rattle.cpl_base.specs.Numerals.{is_digit, are_digits, number}
-
--- an ASCII letter
-abbrev pub is_letter : ℕ → Bool
-is_letter c = (nat_le 65 c && nat_le c 90) || (nat_le 97 c && nat_le c 122)
-
--- a letter, a digit or `_`
-abbrev pub is_name_byte : ℕ → Bool
-is_name_byte c = is_letter c || is_digit c || c == 95
+use Rattle.cpl_base.specs.Numerals.{is_digit, are_digits, number, value_of}
+pub use Rattle.cpl_formula.specs.Tokens.{behind, is_letter, is_name_byte}
 
 -- a letter, then letters, digits and `_`, of 32 bytes at most
 abbrev pub is_name : List ℕ → Bool
 is_name [] = false
 is_name (c ∷ cs) = is_letter c && list_all is_name_byte cs && nat_le (length cs) 31
-
--- what stands in a text behind this beginning, if it begins so
-abbrev pub behind : List ℕ → List ℕ → Option (List ℕ)
-behind [] text = Some text
-behind (c ∷ cs) [] = None
-behind (c ∷ cs) (d ∷ ds) = if c == d then behind cs ds else None
 
 -- whether a text begins so
 abbrev pub begins : List ℕ → List ℕ → Bool
@@ -44,6 +32,10 @@ is_field_name word = is_name word && not (list_any (λ name. bytes_eq name word)
 -- the number of one to eighteen decimal digits
 abbrev pub number_word : List ℕ → Option ℕ
 number_word word = if are_digits word && nat_le (length word) 18 then Some (number word) else None
+
+-- a number, which has no minus
+abbrev pub constant_of : List ℕ → Option ℤ
+constant_of word = if slice_index word 0 == 45 then None else result_ok (value_of word)
 
 -- the texts that references point to
 abbrev pub texts : List (Bor (List ℕ)) → List (List ℕ)

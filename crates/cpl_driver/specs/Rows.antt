@@ -1,5 +1,5 @@
 -- The definitions of a run, evaluated on examples.
-use Rattle.std.specs.Prelude.{◌≡◌, ℕ, ℤ, pos, List, [], ◌∷◌, codes, Some, None}
+use Rattle.std.specs.Prelude.{◌≡◌, ℕ, zero, suc, ℤ, pos, List, [], ◌∷◌, ◌++◌, codes, Some, None}
 use Rattle.cpl_base.specs.Outside.{Files}
 use Rattle.cpl_formula.specs.declared.formula.Formula.{Formula, roll-Formula}
 use Rattle.cpl_formula.specs.declared.formula.Formula.TheOpen.{Number, Input, Plus}
@@ -51,6 +51,20 @@ plus a b = roll-Formula (Plus a b)
 abbrev pub rule : Formula → Parsed
 rule tree = record { tree = tree; reads = record { name = Field 0; dx = pos 0; dy = pos 0 } ∷ [] }
 
+-- a component whose phase has this rule
+abbrev pub ruled_by : List ℕ → List ℕ
+ruled_by text = codes "EARTH_component_list: A\nA_grid: 1 1\nA_vars::\nx = 0\n::\nA_phase_run::\nx = " ++ text ++ codes "\n::\nrunSeq::\n@1:3\nA\n@\n::\n"
+
+-- the variable, and so many times the variable more
+abbrev pub variables : ℕ → List ℕ
+variables zero = codes "x"
+variables (suc n) = variables n ++ codes "+x"
+
+-- their sum
+abbrev pub variables_sum : ℕ → Formula
+variables_sum zero = variable
+variables_sum (suc n) = plus (variables_sum n) variable
+
 -- the systems that the two describe
 abbrev pub counting_system : System
 counting_system = record { component = codes "A"; field = codes "x"; start = pos 0; rule = rule (plus variable (number (pos 1000000))); sequence = record { step = 1; duration = 3 } }
@@ -79,7 +93,23 @@ run_of bytes = answer (codes "run" ∷ codes "f" ∷ []) (holding bytes)
 abbrev pub refused : Reply
 refused = record { status = status.Refused; text = not_yet_built_line }
 
+-- the rules that a system may have: sums of numbers and of its variable, and nothing else
+pub record RuleRows : Type 0 where
+  pub number_alone : system_of (ruled_by (codes "2.5")) ≡ Some (record counting_system { rule = record { tree = number (pos 2500000); reads = [] } })
+  pub atoms_32 : system_of (ruled_by (variables 31)) ≡ Some (record counting_system { rule = rule (variables_sum 31) })
+  pub atoms_33 : system_of (ruled_by (variables 32)) ≡ None
+  pub difference : system_of (ruled_by (codes "x - 1")) ≡ None
+  pub quantity : system_of (ruled_by (codes "i + 1")) ≡ None
+  pub neighbour : system_of (ruled_by (codes "x[0,0]")) ≡ None
+  pub brackets : system_of (ruled_by (codes "(x)")) ≡ None
+  pub two_atoms : system_of (ruled_by (codes "x 1")) ≡ None
+  pub unknown : system_of (ruled_by (codes "y + 1")) ≡ None
+  pub plus_last : system_of (ruled_by (codes "x +")) ≡ None
+  pub point_last : system_of (ruled_by (codes "x + 1.")) ≡ None
+  pub seven_places : system_of (ruled_by (codes "x + 0.1234567")) ≡ None
+
 pub record SerialRows : Type 0 where
+  pub rules : RuleRows
   pub describes_counting : system_of counting ≡ Some counting_system
   pub describes_doubling : system_of doubling ≡ Some doubling_system
   pub runs_counting : serial counting_system ≡ counting_end

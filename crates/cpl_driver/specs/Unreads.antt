@@ -4,7 +4,7 @@ use Rattle.cpl_formula.specs.declared.formula.FormulaFault.TheVariants as formul
 use Rattle.cpl_driver.specs.declared.unread.Unread.{Unread}
 use Rattle.cpl_driver.specs.declared.unread.Unread.TheVariants.{Memory, NotYetBuilt}
 
--- a formula that is not built yet is a file that is not built yet
+-- want of memory stays so, and a text that no formula can be is a file of a form that is not built yet
 abbrev pub unread_of : FormulaFault → Unread
-unread_of formula.NotYetBuilt = NotYetBuilt
 unread_of formula.Memory = Memory
+unread_of fault = NotYetBuilt

@@ -17,7 +17,7 @@ const RESERVED: [&[u8]; 19] = [
 const MOST_DIGITS: usize = 18;
 
 /// Whether a byte may stand in a name behind its first letter.
-fn is_name_byte(byte: u8) -> bool
+pub fn is_name_byte(byte: u8) -> bool
     ensures { result ≡ is_name_code byte }
 {
     byte.is_ascii_alphanumeric() || byte == b'_'

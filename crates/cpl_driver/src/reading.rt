@@ -3,22 +3,24 @@
 ghost use Rattle.std.specs.Prelude.{◌≡◌, IfOk, IfSome, IsTrue, length};
 ghost use Rattle.std.specs.List.{join_with_byte, list_all};
 ghost use Rattle.cpl_base.specs.Numbers.{IsValue};
-ghost use Rattle.cpl_formula.specs.Sums.{constant_of};
 ghost use Rattle.cpl_formula.specs.Tree.{is_over};
-ghost use Rattle.cpl_driver.specs.Files.{component_of, is_loop as is_loop_of, is_one_cell as is_one_cell_line, is_plain as is_plain_byte, loop_in, loop_of, rule_of, system_in, system_of, variable_of};
-ghost use Rattle.cpl_driver.specs.Names.{texts};
+ghost use Rattle.cpl_driver.specs.Files.{component_of, is_field_read as is_read_of_field, is_loop as is_loop_of, is_one_cell as is_one_cell_line, is_plain as is_plain_byte, is_sum_byte as is_sum_code, loop_in, loop_of, rule_of, sum_of, system_in, system_of, variable_of};
+ghost use Rattle.cpl_driver.specs.Names.{constant_of, texts};
 ghost use Rattle.cpl_driver.specs.Reads.{Gives, IsSound, line_texts};
 
 use crate::items::{assignment, closes, is_word, labelled, line, lines, only, opens, values};
-use crate::names::{behind, is_field_name, is_name, number_word};
+use crate::names::{behind, is_field_name, is_name, is_name_byte, number_word};
 use crate::system::{Loop, System};
 use crate::unread::Unread;
 use cpl_base::{Memory, Text, cut, read_val};
-use cpl_formula::{Parsed, parse};
+use cpl_formula::{Parsed, Read, ReadName, parse};
 use std::alloc::Global;
 
 /// So many lines with words has a file that describes one model on one cell.
 const LINES: usize = 13;
+
+/// The text of a formula has fewer bytes than this: 2^32.
+const TEXT_LIMIT: usize = 4_294_967_296;
 
 /// The system that the bytes of a file describe.
 ///
@@ -152,6 +154,51 @@ fn joined(alloc: Global, words: &[&[u8]]) -> Result<Vec<u8>, Memory>
     Ok(text)
 }
 
+/// Whether a byte may stand in a sum: one of a name, a point, a blank or `+`.
+fn is_sum_byte(byte: u8) -> bool
+    ensures { result ≡ is_sum_code byte }
+{
+    is_name_byte(byte) || matches!(byte, b'.' | b' ' | b'+')
+}
+
+/// Whether each byte may stand in a sum.
+fn are_sum_bytes(bytes: &[u8]) -> bool
+    ensures { result ≡ list_all is_sum_code bytes.now }
+{
+    bytes.iter().all(|byte| is_sum_byte(*byte))
+}
+
+/// Whether a field is read.
+fn is_field_read(read: &Read) -> bool
+    ensures { result ≡ is_read_of_field read.now }
+{
+    matches!(read.name, ReadName::Field(_))
+}
+
+/// Whether each read is that of a field.
+fn are_field_reads(reads: &[Read]) -> bool
+    ensures { result ≡ list_all is_read_of_field reads.now }
+{
+    reads.iter().all(|read| is_field_read(read))
+}
+
+/// A rule over this field: one to 32 numbers and names of the field, joined by `+`.
+#[tactic(auto, unfolding(crate::specs::Files::sum_of))]
+fn sum(alloc: Global, field: &[u8], text: &[u8]) -> Result<Parsed, Unread>
+    ensures sum { Gives (λ rule. rule) result (sum_of field.now text.now) }
+    ensures over { IfOk result (λ rule. IsTrue (is_over (length rule.reads) rule.tree)) }
+{
+    if !are_sum_bytes(text) || text.len() >= TEXT_LIMIT {
+        return Err(Unread::NotYetBuilt);
+    }
+    let fields = [Text::of(alloc, field)?];
+    let rule = parse(alloc, text, &fields, &[])?;
+    if !are_field_reads(rule.reads.items()) {
+        return Err(Unread::NotYetBuilt);
+    }
+    Ok(rule)
+}
+
 /// The rule of the table of the phase: one row, `FIELD = FORMULA`.
 #[tactic(auto, unfolding(crate::specs::Files::rule_of))]
 fn rule(
@@ -173,8 +220,7 @@ fn rule(
         return Err(Unread::NotYetBuilt);
     }
     let text = joined(alloc, words)?;
-    let fields = [Text::of(alloc, field)?];
-    let rule = parse(alloc, text.as_slice(), &fields, &[])?;
+    let rule = sum(alloc, field, text.as_slice())?;
     if !closes(line(lines, 7)) {
         return Err(Unread::NotYetBuilt);
     }

@@ -30,8 +30,8 @@ impl From<FormulaFault> for Unread {
 
     fn from(fault: FormulaFault) -> Unread {
         match fault {
-            FormulaFault::NotYetBuilt => Unread::NotYetBuilt,
             FormulaFault::Memory => Unread::Memory,
+            _ => Unread::NotYetBuilt,
         }
     }
 }

@@ -1,12 +1,13 @@
 use Rattle.std.proofs.Common.{refl}
 use Rattle.cpl_driver.specs.Answers.{answer}
 use Rattle.cpl_driver.specs.Files.{line, lines_of, system_in, system_of}
-use Rattle.cpl_driver.proofs.Examples.{counting_is, counting_ends, counting_said, doubling_is, doubling_ends, doubling_said}
+use Rattle.cpl_driver.proofs.Examples.{counting_is, counting_ends, counting_said, doubling_is, doubling_ends, doubling_said, rules_are}
 use Rattle.cpl_driver.proofs.rows.serial_rows.Goals as goal
 
 pub returns : goal.returns
 unfolding answer system_of system_in lines_of line
 returns c = record {
+  rules = rules_are;
   describes_counting = counting_is;
   describes_doubling = doubling_is;
   runs_counting = counting_ends;

@@ -1,0 +1,9 @@
+use Rattle.std.proofs.Common.{rules, tests}
+use Rattle.std.proofs.lemmas.Iterator.{YieldsList-from_slice}
+use Rattle.std.proofs.lemmas.Iterator.Search.{all_from_yields_List}
+use Rattle.cpl_driver.specs.Files.{is_field_read}
+use Rattle.cpl_driver.proofs.reading.are_field_reads.Goals as goal
+
+pub returns : goal.returns
+returns c =
+    all_from_yields_List is_field_read _ _ _ c.all.ensures.ran (YieldsList-from_slice c.args.reads.now cc) (λ x b q k. search (rules, tests))
