@@ -4,6 +4,4 @@
 #[cfg(test)]
 mod base;
 #[cfg(test)]
-mod formula;
-#[cfg(test)]
 mod rounding;
