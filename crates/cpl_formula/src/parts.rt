@@ -32,10 +32,11 @@ pub enum Join {
 }
 
 /// A part of one level.
-pub fn leaf(tree: Formula) -> Part
-    ensures { result ≡ leaf_of tree }
+pub fn leaf(alloc: Global, tree: Formula) -> Result<Part, AllocError>
+    ensures { IfOk result (λ made. made ≡ leaf_of tree) }
 {
-    Part::Kept { tree, depth: 1 }
+    let tree = Boxed::new(alloc, tree)?;
+    Ok(Part::Kept { tree, depth: 1 })
 }
 
 /// A level around a part.
@@ -46,8 +47,8 @@ pub fn around(alloc: Global, level: Wrap, part: Part) -> Result<Part, AllocError
         Part::Kept { tree, depth } if depth < MOST => {
             let tree = match level {
                 Wrap::Brackets => tree,
-                Wrap::Minus => Formula::Minus(Boxed::new(alloc, tree)?),
-                Wrap::Abs => Formula::Abs(Boxed::new(alloc, tree)?),
+                Wrap::Minus => Boxed::new(alloc, Formula::Minus(tree))?,
+                Wrap::Abs => Boxed::new(alloc, Formula::Abs(tree))?,
             };
             Ok(Part::Kept {
                 tree,
@@ -59,19 +60,17 @@ pub fn around(alloc: Global, level: Wrap, part: Part) -> Result<Part, AllocError
 }
 
 /// Two trees, joined.
-fn join_trees(alloc: Global, join: Join, a: Formula, b: Formula) -> Result<Formula, AllocError>
-    ensures { IfOk result (λ made. made ≡ made_two join a b) }
+fn join_trees(join: Join, a: Boxed<Formula>, b: Boxed<Formula>) -> Formula
+    ensures { result ≡ made_two join a b }
 {
-    let a = Boxed::new(alloc, a)?;
-    let b = Boxed::new(alloc, b)?;
-    Ok(match join {
+    match join {
         Join::Plus => Formula::Plus(a, b),
         Join::Less => Formula::Less(a, b),
         Join::Times => Formula::Times(a, b),
         Join::Over => Formula::Over(a, b),
         Join::Min => Formula::Min(a, b),
         Join::Max => Formula::Max(a, b),
-    })
+    }
 }
 
 /// A level around two parts.
@@ -85,7 +84,7 @@ pub fn joined(alloc: Global, join: Join, a: Part, b: Part) -> Result<Part, Alloc
     if deepest >= MOST {
         return Ok(Part::Deep);
     }
-    let tree = join_trees(alloc, join, a, b)?;
+    let tree = Boxed::new(alloc, join_trees(join, a, b))?;
     Ok(Part::Kept {
         tree,
         depth: deepest + 1,
@@ -111,11 +110,9 @@ pub fn chosen(alloc: Global, condition: Part, a: Part, b: Part) -> Result<Part, 
     if deepest >= MOST {
         return Ok(Part::Deep);
     }
-    let condition = Boxed::new(alloc, condition)?;
-    let a = Boxed::new(alloc, a)?;
-    let b = Boxed::new(alloc, b)?;
+    let tree = Boxed::new(alloc, Formula::Select(condition, a, b))?;
     Ok(Part::Kept {
-        tree: Formula::Select(condition, a, b),
+        tree,
         depth: deepest + 1,
     })
 }

@@ -70,14 +70,18 @@ fn walk(
 }
 
 /// The operand that ends a text, if one does.
-fn last_operand(reads: &mut IndexSet<Read>, mode: Mode) -> Result<Option<Part>, FormulaFault>
+fn last_operand(
+    alloc: Global,
+    reads: &mut IndexSet<Read>,
+    mode: Mode,
+) -> Result<Option<Part>, FormulaFault>
     requires { length reads.old.keys < 2 ^ 32 }
     ensures ok { IfOk result (λ operand. option_map (λ part. (reads.new.keys, part)) operand ≡ last_operand_of reads.old.keys mode) }
     ensures err { IfErr result (λ fault. fault ≡ OutOfMemory) }
 {
     match mode {
         Mode::Behind(operand) => Ok(Some(operand)),
-        Mode::Named(field) => Ok(Some(read_part(reads, here(field))?)),
+        Mode::Named(field) => Ok(Some(read_part(alloc, reads, here(field))?)),
         _ => Ok(None),
     }
 }
@@ -97,7 +101,7 @@ fn finished(
         level,
         mode,
     } = state;
-    let Some(operand) = last_operand(reads, mode)? else {
+    let Some(operand) = last_operand(alloc, reads, mode)? else {
         return Err(FormulaFault::Syntax { at: end });
     };
     if !frames.items().is_empty() {
@@ -107,6 +111,7 @@ fn finished(
         Part::Deep => Err(FormulaFault::DeepFormula),
         Part::Kept { tree, depth: _ } => {
             let reads = Many::of(Vec::from_slice(alloc, reads.as_slice())?);
+            let tree = tree.into_inner();
             Ok(Parsed { tree, reads })
         }
     }

@@ -5,11 +5,12 @@
 use crate::formula::Formula;
 use crate::tokens::{Function, ProductSign, SumSign};
 use cpl_base::Many;
+use sqlite_items::Boxed;
 
 /// A part of a formula that has been read whole. One that is deeper than formulas may be is not kept.
 #[derive(Debug, Drop)]
 pub enum Part {
-    Kept { tree: Formula, depth: u8 },
+    Kept { tree: Boxed<Formula>, depth: u8 },
     Deep,
 }
 

@@ -13,7 +13,7 @@ use crate::reads::note;
 use crate::state::{Frame, Level, Mode, Opening, Part, Product, State, Sum};
 use crate::stop::Stop;
 use crate::tokens::{Function, ProductSign, SumSign, Token};
-use cpl_base::Many;
+use cpl_base::{Many, Memory};
 use indexmap::IndexSet;
 use std::alloc::{AllocError, AllocFailed, Global};
 
@@ -176,18 +176,24 @@ fn opened(frames: Many<Frame>, level: Level, opening: Opening) -> Result<State, 
 }
 
 /// The part that a read is.
-pub fn read_part(reads: &mut IndexSet<Read>, read: Read) -> Result<Part, AllocFailed<Read>>
+pub fn read_part(
+    alloc: Global,
+    reads: &mut IndexSet<Read>,
+    read: Read,
+) -> Result<Part, Memory>
     requires { length reads.old.keys < 2 ^ 32 }
     ensures part { IfOk result (λ part. part ≡ leaf_of (input_of reads.old.keys read)) }
     ensures reads { IfOk result (λ part. reads.new.keys ≡ noted reads.old.keys read) }
     ensures few { IfOk result (λ part. length reads.new.keys ≤ length reads.old.keys + 1) }
 {
     let place = note(reads, read)?;
-    Ok(leaf(Formula::Input(place)))
+    let part = leaf(alloc, Formula::Input(place))?;
+    Ok(part)
 }
 
 /// An operand may stand here.
 fn wanted(
+    alloc: Global,
     reads: &mut IndexSet<Read>,
     frames: Many<Frame>,
     level: Level,
@@ -204,10 +210,16 @@ fn wanted(
         }
         Token::Open => return Ok(opened(frames, level, Opening::Group)?),
         Token::Function(function) => Mode::Called(function),
-        Token::Digit(digit) => Mode::Behind(leaf(Formula::Number(i64::from(digit) * MILLION))),
-        Token::Number(number) => Mode::Behind(leaf(Formula::Number(number))),
+        Token::Digit(digit) => {
+            let number = i64::from(digit) * MILLION;
+            Mode::Behind(leaf(alloc, Formula::Number(number))?)
+        }
+        Token::Number(number) => Mode::Behind(leaf(alloc, Formula::Number(number))?),
         Token::Field(field) => Mode::Named(field),
-        Token::Quantity(name) => Mode::Behind(read_part(reads, Read { name, dx: 0, dy: 0 })?),
+        Token::Quantity(name) => {
+            let read = Read { name, dx: 0, dy: 0 };
+            Mode::Behind(read_part(alloc, reads, read)?)
+        }
         Token::BadNumber => return Err(Stop::BadNumber),
         Token::Unknown => return Err(Stop::NameUnknown),
         _ => return Err(Stop::Syntax),
@@ -299,6 +311,7 @@ fn row(
 
 /// Behind the offsets.
 fn ending(
+    alloc: Global,
     reads: &mut IndexSet<Read>,
     frames: Many<Frame>,
     level: Level,
@@ -311,7 +324,7 @@ fn ending(
 {
     match token {
         Token::CloseBracket => {
-            let part = read_part(reads, read)?;
+            let part = read_part(alloc, reads, read)?;
             Ok(State::of(frames, level, Mode::Behind(part)))
         }
         _ => Err(Stop::Syntax),
@@ -417,7 +430,7 @@ fn named(
         };
         return Ok(State::of(frames, level, mode));
     }
-    let operand = read_part(reads, here(field))?;
+    let operand = read_part(alloc, reads, here(field))?;
     behind(alloc, frames, level, operand, token)
 }
 
@@ -454,7 +467,7 @@ pub fn step(
         mode,
     } = state;
     match mode {
-        Mode::Wanted => wanted(reads, frames, level, token),
+        Mode::Wanted => wanted(alloc, reads, frames, level, token),
         Mode::Called(function) => called(frames, level, function, token),
         Mode::Named(field) => named(alloc, reads, frames, level, field, token),
         Mode::Column { field, minus } => column(frames, level, field, minus, token),
@@ -462,7 +475,7 @@ pub fn step(
         Mode::Row { field, dx, minus } => row(frames, level, field, dx, minus, token),
         Mode::Ending { field, dx, dy } => {
             let name = ReadName::Field(field);
-            ending(reads, frames, level, Read { name, dx, dy }, token)
+            ending(alloc, reads, frames, level, Read { name, dx, dy }, token)
         }
         Mode::Behind(operand) => behind(alloc, frames, level, operand, token),
     }
