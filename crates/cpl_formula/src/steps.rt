@@ -176,11 +176,7 @@ fn opened(frames: Many<Frame>, level: Level, opening: Opening) -> Result<State, 
 }
 
 /// The part that a read is.
-pub fn read_part(
-    alloc: Global,
-    reads: &mut IndexSet<Read>,
-    read: Read,
-) -> Result<Part, Memory>
+pub fn read_part(alloc: Global, reads: &mut IndexSet<Read>, read: Read) -> Result<Part, Memory>
     requires { length reads.old.keys < 2 ^ 32 }
     ensures part { IfOk result (λ part. part ≡ leaf_of (input_of reads.old.keys read)) }
     ensures reads { IfOk result (λ part. reads.new.keys ≡ noted reads.old.keys read) }
