@@ -12,6 +12,7 @@ pub mod Shown
 pub mod Spelled
 pub mod Standing
 pub mod Stepping
+pub mod TangledLaws
 pub mod TextSteps
 pub mod TextWalk
 pub mod TokenCases

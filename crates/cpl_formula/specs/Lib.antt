@@ -4,5 +4,6 @@ pub mod Levels
 pub mod Reads
 pub mod Rows
 pub mod Steps
+pub mod Tangles
 pub mod Tokens
 pub mod Tree
