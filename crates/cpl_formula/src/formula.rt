@@ -30,7 +30,7 @@ pub enum ReadName {
     Ring(u16),
 }
 
-/// A read, at the cell itself or at a neighbour so many columns and rows away.
+/// A read, at the cell itself or at a neighbour so many columns and rows away, from -2 to 2 each.
 #[derive(Clone, Copy, Debug, PartialEq, Eq, Hash)]
 pub struct Read {
     pub name: ReadName,

@@ -138,8 +138,9 @@ fn read(
     finished(alloc, &mut reads, state, text.len() as u32)
 }
 
-/// Reads the text of a rule as a formula over fields and alarms of these names, in one pass over its bytes
-/// that takes time in their number, whatever they are.
+/// Reads the text of a rule as a formula over fields and alarms of these names. Over given names it takes
+/// time in the length of the text, whatever its bytes are: they are gone over once for what may stand
+/// nowhere, and once token by token.
 ///
 /// A formula is made of numbers, names, neighbours `field[dx,dy]`, `+`, `-`, `*`, `/`, a minus in front,
 /// brackets and the functions `min`, `max`, `abs` and `sel`; chains group from the left, and blanks between
