@@ -1,5 +1,8 @@
-pub mod CutTexts
-pub mod DigitTexts
-pub mod Numerals
-pub mod Pieces
-mod Roundings
+mod CutFacts
+mod DigitsFacts
+pub mod NumeralsFacts
+mod OutsideFacts
+mod PreparedFacts
+mod RepeatFacts
+mod RoundingFacts
+pub mod WordsFacts

@@ -38,3 +38,7 @@ bytes_of sink = sink.held.items
 -- how many bytes it takes in all
 abbrev pub room_of : MemSink → ℕ
 room_of sink = sink.room
+
+-- how many faults it had
+abbrev pub sink_faults_of : MemSink → ℕ
+sink_faults_of sink = sink.faults

@@ -1,9 +1,14 @@
 pub mod Chain
+pub mod Examples
+pub mod Gives
 pub mod InMemory
+pub mod Lending
 pub mod Loading
 pub mod Numbers
 pub mod Numerals
 pub mod Outside
+pub mod Prepared
+pub mod ResultChain
 pub mod Rounding
-pub mod Rows
+pub mod Streams
 pub mod Words

@@ -15,5 +15,5 @@ abbrev pub Files : Type 0
 Files = List ℕ → Option (List ℕ)
 
 -- what is told of a stream after more bytes went to it
-abbrev pub appended : Option (List ℕ) → List ℕ → Option (List ℕ)
-appended told bytes = option_map (λ so_far. so_far ++ bytes) told
+abbrev pub bytes_after : Option (List ℕ) → List ℕ → Option (List ℕ)
+bytes_after told bytes = option_map (λ so_far. so_far ++ bytes) told

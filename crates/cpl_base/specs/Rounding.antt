@@ -1,7 +1,7 @@
 -- Quotients rounded to the nearest whole number, and products and quotients of values.
-use Rattle.std.specs.Prelude.{ℕ, ℤ, pos, negsuc, neg_ℤ, zero, suc, ◌+◌, ◌-◌, ◌*◌, ◌/◌, ◌+ℤ◌, ◌*ℤ◌, Bool, true, false}
+use Rattle.std.specs.Prelude.{◌≡◌, ℕ, ℤ, pos, negsuc, neg_ℤ, zero, suc, ◌+◌, ◌-◌, ◌*◌, ◌/◌, ◌≤◌, ◌+ℤ◌, ◌*ℤ◌, Bool, true, false}
 use Rattle.std.specs.Int.{int_div_euclid}
-use Rattle.cpl_base.specs.Numbers.{clip, million}
+use Rattle.cpl_base.specs.Numbers.{IsValue, clip, million}
 
 -- the whole number nearest to n / d, for d above 0: a half goes up
 abbrev pub near_of : ℤ → ℤ → ℤ
@@ -21,3 +21,10 @@ quotient_of a (negsuc b) = clip (near_of (neg_ℤ (a *ℤ pos million)) (pos (su
 abbrev pub nearest_size : Bool → ℕ → ℕ → ℕ
 nearest_size true size d = (2 * size + d) / (2 * d)
 nearest_size false size d = (2 * size + d - 1) / (2 * d)
+
+-- a divisor that can be prepared: a whole number of thousandths above 0, in millionths
+pub record IsThousandths (d : ℤ) : Type 0 where
+  pub thousandths : ℕ
+  pub some : 1 ≤ thousandths
+  pub is : d ≡ pos (1000 * thousandths)
+  pub value : IsValue d

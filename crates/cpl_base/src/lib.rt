@@ -6,30 +6,38 @@
 
 mod cuts;
 mod digits;
+mod divisor;
+mod examples;
 mod file_shelf;
 mod many;
 mod mem_shelf;
 mod mem_sink;
 mod memory;
+mod names;
+mod numeral;
 mod rounding;
-mod rows;
 mod shelf;
 mod sink;
 mod std_sink;
 mod text;
 mod value;
 
-pub use cuts::{cut, words};
-pub use digits::{decimal, is_decimal, write_number};
+pub use cuts::{cut, is_blank, joined, rest_behind, split_sign, words};
+pub use digits::{
+    decimal, is_decimal, number_between, number_word, signed_number_word, write_number,
+};
+pub use divisor::Divisor;
+pub use examples::{rounding_examples, text_examples, value_examples};
 pub use file_shelf::FileShelf;
 pub use many::Many;
 pub use mem_shelf::MemShelf;
 pub use mem_sink::MemSink;
 pub use memory::Memory;
+pub use names::{first_repeat, is_letter, is_name, is_name_byte, place_of};
+pub use numeral::read_numeral;
 pub use rounding::{div, mul, near};
-pub use rows::{rounding_rows, value_rows};
 pub use shelf::{LoadFault, Shelf};
 pub use sink::{Sink, SinkFailed, write_all};
 pub use std_sink::StdSink;
 pub use text::Text;
-pub use value::{ValFault, clip, read_val, write_val};
+pub use value::{GREATEST, MILLION, ValFault, clip, read_val, write_val};

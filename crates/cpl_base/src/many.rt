@@ -18,7 +18,12 @@ impl<T> Model for Many<T> {
 }
 
 impl<T> Many<T> {
+    ghost use Rattle.std.specs.Borrow.{sem};
+    ghost use Rattle.cpl_base.specs.Lending.{LendsItems};
+
     /// These items, in their order. Takes no memory.
+    ///
+    /// Source: this project's own.
     pub fn of(items: Vec<T>) -> Many<T>
         ensures { result ≡ items.items }
     {
@@ -26,13 +31,27 @@ impl<T> Many<T> {
     }
 
     /// The items, lent.
+    ///
+    /// Source: this project's own.
     pub fn items(&self) -> &[T]
         ensures { result.now ≡ self.now }
     {
         self.held.as_slice()
     }
 
+    /// The items, lent to be changed: the list becomes what is left in the slice.
+    ///
+    /// Source: this project's own.
+    pub fn as_mut_slice(&mut self) -> &mut [T]
+        ensures* writes_back { sem 𝓛 (LendsItems T.row self.entry result) }
+        ensures value { result.now ≡ self.old }
+    {
+        self.held.as_mut_slice()
+    }
+
     /// The items, given back. Takes no memory.
+    ///
+    /// Source: this project's own.
     pub fn into_items(self) -> Vec<T>
         ensures { result.items ≡ self }
     {

@@ -87,8 +87,11 @@ impl Shelf for MemShelf {
         ensures answers { failing_load self.old ≢ Some (loads_of self.old) → Answers (held_at self.old name.now) limit result × (self.new.faults ≡ self.old.faults) }
         ensures number { loads_of self.old + 1 < 2 ^ 64 → loads_of self.new ≡ loads_of self.old + 1 }
 
+        // Which load is to fail stays as it was set.
+        ensures failing { failing_load self.new ≡ failing_load self.old }
+
         // Without a load that is to fail, the count stays.
-        ensures sound { failing_load self.old ≡ None → (self.new.faults ≡ self.old.faults) × (failing_load self.new ≡ None) }
+        ensures sound { failing_load self.old ≡ None → self.new.faults ≡ self.old.faults }
     {
         let call = self.loads;
         self.loads = call.saturating_add(1);

@@ -16,12 +16,13 @@ pub struct MemSink {
 }
 
 impl MemSink {
-    ghost use Rattle.cpl_base.specs.InMemory.{bytes_of, room_of};
+    ghost use Rattle.cpl_base.specs.InMemory.{bytes_of, room_of, sink_faults_of};
 
     /// A sink without bytes, that takes so many. All its memory is taken here.
     pub fn new(alloc: Global, room: usize) -> Result<MemSink, Memory>
         ensures empty { IfOk result (λ sink. bytes_of sink ≡ []) }
         ensures room { IfOk result (λ sink. room_of sink ≡ room) }
+        ensures faults { IfOk result (λ sink. sink_faults_of sink ≡ 0) }
     {
         Ok(MemSink {
             held: Vec::with_capacity(alloc, room)?,
@@ -39,9 +40,9 @@ impl MemSink {
 }
 
 impl Sink for MemSink {
-    ghost use Rattle.std.specs.Prelude.{◌≡◌, ◌+◌, ◌≤◌, ◌<◌, length, take, Some, IfOk, Ok, OnOk, OnErr};
+    ghost use Rattle.std.specs.Prelude.{◌≡◌, ◌-◌, ◌≤◌, ◌<◌, ◌↔◌, length, min, take, Some, IfOk, IsErr, OnOk, OnErr};
     ghost use Rattle.cpl_base.specs.InMemory.{bytes_of, room_of};
-    ghost use Rattle.cpl_base.specs.Outside.{Rises, appended};
+    ghost use Rattle.cpl_base.specs.Outside.{Rises, bytes_after};
 
     ghost sent = { λ s. Some (bytes_of s) };
 
@@ -49,15 +50,16 @@ impl Sink for MemSink {
 
     fn write(&mut self, bytes: &[u8]) -> Result<usize, SinkFailed>
         ensures taken { IfOk result (λ n. (n ≤ length bytes.now) × (0 < length bytes.now → 0 < n)) }
-        ensures ok { IfOk result (λ n. Some (bytes_of self.new) ≡ appended (Some (bytes_of self.old)) (take n bytes.now)) }
+        ensures ok { IfOk result (λ n. Some (bytes_of self.new) ≡ bytes_after (Some (bytes_of self.old)) (take n bytes.now)) }
         ensures quiet { OnOk result (self.new.faults ≡ self.old.faults) }
         ensures err { OnErr result (Some (bytes_of self.new) ≡ Some (bytes_of self.old)) }
         ensures counts { self.old.faults ≤ self.new.faults }
         ensures rises { OnErr result (Rises self.old.faults self.new.faults) }
 
-        // Where there is room for the whole piece, it is taken whole.
+        // It takes as much of the piece as there is room for, and fails exactly where there is none and the piece isn't empty.
         ensures room { room_of self.new ≡ room_of self.old }
-        ensures fits { length (bytes_of self.old) + length bytes.now ≤ room_of self.old → result ≡ Ok (length bytes.now) }
+        ensures most { IfOk result (λ n. n ≡ min (room_of self.old - length (bytes_of self.old)) (length bytes.now)) }
+        ensures full { IsErr result ↔ ((room_of self.old ≤ length (bytes_of self.old)) × (0 < length bytes.now)) }
     {
         let left = self.room.saturating_sub(self.held.len());
         let taken = left.min(bytes.len());

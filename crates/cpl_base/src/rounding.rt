@@ -7,14 +7,10 @@ ghost use Rattle.cpl_base.specs.Numbers.{IsValue, greatest, million};
 ghost use Rattle.cpl_base.specs.Numerals.{signed};
 ghost use Rattle.cpl_base.specs.Rounding.{near_of, nearest_size, product_of, quotient_of};
 
-/// A unit has so many millionths.
-const MILLION: u64 = 1_000_000;
+use crate::value::{GREATEST, MILLION};
 
 /// A number of whole millions; twice that, and half a million, fit 63 bits.
 const SHIFT: i64 = 4_611_686_018_427_000_000;
-
-/// The greatest value, in millionths.
-const GREATEST: u128 = 1_000_000_000_000_000;
 
 /// The greatest number of 64 bits.
 const NARROW: u128 = 0xffff_ffff_ffff_ffff;
@@ -104,7 +100,7 @@ fn scaled(minus: bool, size: u64, by: u64, d: u64) -> i64
     ensures { result ≡ signed minus (min (nearest_size (not minus) (size * by) d) greatest) }
 {
     let product = u128::from(size) * u128::from(by);
-    let size = nearest(product, u128::from(d), !minus).min(GREATEST) as i64;
+    let size = nearest(product, u128::from(d), !minus).min(u128::from(GREATEST)) as i64;
     if minus { -size } else { size }
 }
 

@@ -3,7 +3,7 @@
 //! The sinks that exist stand in files of their own: one in memory, one over real streams.
 
 ghost use Rattle.std.specs.Prelude.{◌≡◌, ◌<◌, ◌≤◌, ℕ, length, take, OnOk, OnErr};
-ghost use Rattle.cpl_base.specs.Outside.{Rises, appended};
+ghost use Rattle.cpl_base.specs.Outside.{Rises, bytes_after};
 
 /// A write took nothing, and the sink's count of faults rose.
 #[derive(Clone, Copy, Debug, PartialEq, Eq)]
@@ -14,7 +14,7 @@ pub struct SinkFailed;
 /// Contracts see the bytes so far, where the sink tells them, and a count of faults that never falls.
 pub trait Sink {
     ghost use Rattle.std.specs.Prelude.{◌≡◌, ◌⊎◌, ◌≤◌, ◌<◌, ℕ, List, length, take, Option, IfOk, OnOk, OnErr};
-    ghost use Rattle.cpl_base.specs.Outside.{Rises, appended};
+    ghost use Rattle.cpl_base.specs.Outside.{Rises, bytes_after};
 
     /// The bytes so far, where they are told.
     ghost sent: { Self → Option (List ℕ) };
@@ -28,7 +28,7 @@ pub trait Sink {
     /// Errors: `SinkFailed` where nothing could be taken.
     fn write(&mut self, bytes: &[u8]) -> Result<usize, SinkFailed>
         ensures taken { IfOk result (λ n. (n ≤ length bytes.now) × (0 < length bytes.now → 0 < n)) }
-        ensures ok { IfOk result (λ n. sent self.new ≡ appended (sent self.old) (take n bytes.now)) }
+        ensures ok { IfOk result (λ n. sent self.new ≡ bytes_after (sent self.old) (take n bytes.now)) }
         ensures quiet { OnOk result (faults self.new ≡ faults self.old) }
         ensures err { OnErr result (sent self.new ≡ sent self.old) }
         ensures counts { faults self.old ≤ faults self.new }
@@ -39,9 +39,9 @@ pub trait Sink {
 ///
 /// Errors: `SinkFailed` where a write failed; then a proper prefix of the bytes was written.
 pub fn write_all<S: Sink>(sink: &mut S, bytes: &[u8]) -> Result<(), SinkFailed>
-    ensures ok { OnOk result (S.sent sink.new ≡ appended (S.sent sink.old) bytes.now) }
+    ensures ok { OnOk result (S.sent sink.new ≡ bytes_after (S.sent sink.old) bytes.now) }
     ensures quiet { OnOk result (S.faults sink.new ≡ S.faults sink.old) }
-    ensures err { OnErr result ((n : ℕ) × (n < length bytes.now) × (S.sent sink.new ≡ appended (S.sent sink.old) (take n bytes.now))) }
+    ensures err { OnErr result ((n : ℕ) × (n < length bytes.now) × (S.sent sink.new ≡ bytes_after (S.sent sink.old) (take n bytes.now))) }
     ensures counts { S.faults sink.old ≤ S.faults sink.new }
     ensures rises { OnErr result (Rises (S.faults sink.old) (S.faults sink.new)) }
 {

@@ -1,7 +1,7 @@
 -- Dates and moments in their order: no two times have one moment, and each lies before the end of time.
-use Rattle.std.proofs.Common.{◌≡◌, ℕ, zero, suc, ◌+◌, ◌-◌, ◌*◌, ◌<◌, ◌≤◌, inl, inr, false, refl, ap, ◌∙◌, arith, leb, eqb, IfOk, Ok, Some, pos, ◌/◌, ◌%◌}
-use Rattle.std.proofs.lemmas.Bool.{and_parts, cases_Bool, cases_order, le-leb, leb-true, ne_eqb}
-use Rattle.cpl_calendar.specs.Calendar.{days_before, date_number, month_number, month_length, numbered_length, moment_of, end_of_time, has_day, judged, number_if_any, IsDate, IsForm, IsTime}
+use Rattle.std.proofs.Common.{◌≡◌, ℕ, zero, suc, ◌+◌, ◌-◌, ◌*◌, ◌<◌, ◌≤◌, inl, inr, refl, sym, ap, ◌∙◌, arith, Some, ℤ, pos, ◌/◌, ◌%◌}
+use Rattle.std.proofs.lemmas.Bool.{cases_order, le-leb}
+use Rattle.cpl_calendar.specs.Calendar.{days_before, date_number, month_number, month_length, numbered_length, moment_of, end_of_time, number_if_any, IsDate, IsTime}
 use Rattle.cpl_calendar.specs.Dates.{IsMonthAt, IsNumbered}
 use Rattle.cpl_calendar.specs.declared.calendar.Cal.{Cal}
 use Rattle.cpl_calendar.specs.declared.calendar.Cal.TheVariants.{Gregorian, NoLeap, Day360}
@@ -28,7 +28,7 @@ numbered_length-own cal y m year low high =
     let m_is : suc (m - 1) ≡ m = omega arith in
     rw (y_is, m_is) at (numbered_length-at cal (y - 1) (m - 1) (omega arith))
 
--- a month has 31 days at the most
+-- a month has at most 31 days
 pub month_length-le : (cal : Cal) (y m : ℕ) → month_length cal y m ≤ 31
 month_length-le Gregorian y m = grind arith
 month_length-le NoLeap y m = grind arith
@@ -81,8 +81,12 @@ same_parts p q year month day hour minute second = λ i. record {
   second = second i;
 }
 
+-- a number of seconds, out of its sign
+from_pos : (a b : ℕ) → pos a ≡ pos b → a ≡ b
+from_pos a b e = cc
+
 -- two times with one moment are one
-pub moment_of_injective : (cal : Cal) (p q : Parts) → IsTime cal p → IsTime cal q → moment_of cal p ≡ moment_of cal q → p ≡ q
+moment_of_injective : (cal : Cal) (p q : Parts) → IsTime cal p → IsTime cal q → moment_of cal p ≡ moment_of cal q → p ≡ q
 moment_of_injective cal p q a b e =
     let hour = a.hour in let minute = a.minute in let second = a.second in
     let hour₂ = b.hour in let minute₂ = b.minute in let second₂ = b.second in
@@ -90,55 +94,9 @@ moment_of_injective cal p q a b e =
     let date = date_number_injective cal p.year p.month p.day q.year q.month q.day a.date b.date days in
     same_parts p q date.year date.month date.day (omega arith) (omega arith) (omega arith)
 
--- ---- what parts are judged to be
-
--- a time is of the form
-pub IsForm-time : (cal : Cal) (p : Parts) → IsTime cal p → IsForm p
-IsForm-time cal p time =
-    let short = month_length-le cal p.year p.month in
-    let date = time.date in
-    record {
-      year = date.year_high;
-      month_low = date.month_low;
-      month_high = date.month_high;
-      day = omega arith;
-      hour = time.hour;
-      minute = time.minute;
-      second = time.second;
-    }
-
--- a time is judged to be its moment
-pub judged-time : (cal : Cal) (p : Parts) → IsTime cal p → judged cal p ≡ Ok (pos (moment_of cal p))
-judged-time cal p time =
-    let date = time.date in
-    let year : eqb p.year 0 ≡ false = ne_eqb p.year 0 (omega arith) in
-    rw (year, le-leb 1 p.day date.day_low, le-leb p.day (month_length cal p.year p.month) date.day_high) refl
-
--- what is judged to be a moment is a time with that moment
-pub judged_ok : (cal : Cal) (p : Parts) → IsForm p → IfOk (judged cal p) (λ m. IsTime cal p × (pos (moment_of cal p) ≡ m))
-judged_ok cal p form =
-    elim (cases_Bool (eqb p.year 0)) [
-      | inl e ↦ rw e tt
-      | inr some ↦ elim (cases_Bool (has_day cal p.year p.month p.day)) [
-        | inr e ↦ rw (some, e) tt
-        | inl e ↦ rw (some, e) (let day = and_parts (leb 1 p.day) (leb p.day (month_length cal p.year p.month)) e in (
-          record {
-            date = record {
-              year_low = grind arith;
-              year_high = form.year;
-              month_low = form.month_low;
-              month_high = form.month_high;
-              day_low = leb-true 1 p.day day.0;
-              day_high = leb-true p.day (month_length cal p.year p.month) day.1;
-            };
-            hour = form.hour;
-            minute = form.minute;
-            second = form.second;
-          },
-          refl,
-        ))
-      ]
-    ]
+-- times with one moment are one
+pub IsTime-unique : (cal : Cal) (p q : Parts) (m : ℤ) → IsTime cal p → IsTime cal q → pos (moment_of cal p) ≡ m → pos (moment_of cal q) ≡ m → p ≡ q
+IsTime-unique cal p q m a b e f = moment_of_injective cal p q a b (from_pos (moment_of cal p) (moment_of cal q) (e ∙ sym f))
 
 -- ---- the days before a date, as the code counts them
 

@@ -16,7 +16,7 @@ use Rattle.jiff_core.proofs.SignedLemmas.{signed_arith}
 use Rattle.cpl_calendar.specs.Calendar.{IsDate, date_number, days_before, month_length}
 use Rattle.cpl_calendar.specs.Dates.{IsNumbered}
 use Rattle.cpl_calendar.specs.declared.calendar.Cal.TheVariants.{Gregorian}
-use Rattle.cpl_calendar.proofs.Months.{days_before-suc, days_before-zero, gregorian_year, in_year, in_years-suc, numbered_length-at, whole_years}
+use Rattle.cpl_calendar.proofs.Months.{days_before-suc, days_before-zero, gregorian_year, in_year, days_of_years-suc, numbered_length-at, whole_years}
 
 -- jiff's months are as long
 days_in_month-length : (y m : ℕ) → days_in_month (pos y) m ≡ month_length Gregorian y m
@@ -35,7 +35,7 @@ year_begins : (y : ℕ) → day_count (pos (suc y)) 1 1 ≡ days_before Gregoria
 year_begins zero = rw (days_before-zero Gregorian) first_day
 year_begins (suc y) =
     let next = day_count-next_year (pos (suc y)) (pos (suc (suc y))) (omega (arith, signed_arith)) (omega (arith, signed_arith)) in
-    omega (arith, year_begins y, whole_years Gregorian y, whole_years Gregorian (suc y), in_years-suc Gregorian y, days_in_year-length (suc y))
+    omega (arith, year_begins y, whole_years Gregorian y, whole_years Gregorian (suc y), days_of_years-suc Gregorian y, days_in_year-length (suc y))
 
 -- and so does each month
 month_begins : (y k : ℕ) → k < 12 → day_count (pos (suc y)) (suc k) 1 ≡ days_before Gregorian (12 * y + k) + 3652791

@@ -1,5 +1,5 @@
 pub mod DateOrder
-pub mod JiffDays
+mod JiffDays
 pub mod Months
-pub mod Readings
-pub mod Spelling
+pub mod PartsFacts
+mod TextsFacts

@@ -1,7 +1,8 @@
 -- The days before a month: year by year, and in order.
-use Rattle.std.proofs.Common.{◌≡◌, ℕ, zero, suc, ◌+◌, ◌-◌, ◌*◌, ◌/◌, ◌%◌, ◌<◌, ◌≤◌, cond, refl, sym, ap, ◌∙◌, arith, add-one, zero-add, [], ◌∷◌, get_or}
+use Rattle.std.proofs.Common.{◌≡◌, ℕ, zero, suc, ◌+◌, ◌*◌, ◌/◌, ◌%◌, ◌<◌, ◌≤◌, cond, refl, sym, ap, ◌∙◌, arith, add-one, zero-add, [], ◌∷◌, get_or}
 use Rattle.std.proofs.lemmas.Bool.Decides.{nat_tests}
 use Rattle.cpl_calendar.specs.Calendar.{days_before, is_leap, common_length, month_length, numbered_length}
+use Rattle.cpl_calendar.specs.Parts.{days_of_years}
 use Rattle.cpl_calendar.specs.declared.calendar.Cal.{Cal}
 use Rattle.cpl_calendar.specs.declared.calendar.Cal.TheVariants.{Gregorian, NoLeap, Day360}
 
@@ -29,24 +30,18 @@ abbrev pub in_year : Cal → ℕ → ℕ → ℕ
 in_year cal year zero = 0
 in_year cal year (suc k) = in_year cal year k + month_length cal year (suc k)
 
--- the days of the first y years
-abbrev pub in_years : Cal → ℕ → ℕ
-in_years Gregorian y = 365 * y + y / 4 + y / 400 - y / 100
-in_years NoLeap y = 365 * y
-in_years Day360 y = 360 * y
-
 -- a common year has 365 days, and a leap year one more
 pub gregorian_year : (y : ℕ) → in_year Gregorian y 12 ≡ 365 + cond (is_leap y) 1 0
 gregorian_year y = grind arith
 
 -- a year more, in each calendar
-pub in_years-suc : (cal : Cal) (y : ℕ) → in_years cal (suc y) ≡ in_years cal y + in_year cal (suc y) 12
-in_years-suc Gregorian y = rw (gregorian_year (suc y)) (grind (arith, nat_tests))
-in_years-suc NoLeap y = omega arith
-in_years-suc Day360 y = omega arith
+pub days_of_years-suc : (cal : Cal) (y : ℕ) → days_of_years cal (suc y) ≡ days_of_years cal y + in_year cal (suc y) 12
+days_of_years-suc Gregorian y = rw (gregorian_year (suc y)) (grind (arith, nat_tests))
+days_of_years-suc NoLeap y = omega arith
+days_of_years-suc Day360 y = omega arith
 
 -- the months of a year, on top of the years before
-from_year : (cal : Cal) (y k : ℕ) → k ≤ 12 → days_before cal (12 * y + k) ≡ days_before cal (12 * y) + in_year cal (suc y) k
+pub from_year : (cal : Cal) (y k : ℕ) → k ≤ 12 → days_before cal (12 * y + k) ≡ days_before cal (12 * y) + in_year cal (suc y) k
 from_year cal y zero h = let same : 12 * y + 0 ≡ 12 * y = omega arith in rw same (omega arith)
 from_year cal y (suc k) h =
     let next : 12 * y + suc k ≡ 12 * y + k + 1 = omega arith in
@@ -56,16 +51,16 @@ from_year cal y (suc k) h =
     rw (next, more, before, length_is) (omega arith)
 
 -- whole years
-pub whole_years : (cal : Cal) (y : ℕ) → days_before cal (12 * y) ≡ in_years cal y
+pub whole_years : (cal : Cal) (y : ℕ) → days_before cal (12 * y) ≡ days_of_years cal y
 whole_years Gregorian zero = days_before-zero Gregorian
 whole_years NoLeap zero = days_before-zero NoLeap
 whole_years Day360 zero = days_before-zero Day360
 whole_years cal (suc y) =
     let next : 12 * suc y ≡ 12 * y + 12 = omega arith in
-    rw next (from_year cal y 12 (omega arith) ∙ ap (λ d. d + in_year cal (suc y) 12) (whole_years cal y) ∙ sym (in_years-suc cal y))
+    rw next (from_year cal y 12 (omega arith) ∙ ap (λ d. d + in_year cal (suc y) 12) (whole_years cal y) ∙ sym (days_of_years-suc cal y))
 
 -- the days before a month, in closed form
-pub days_before-at : (cal : Cal) (n : ℕ) → days_before cal n ≡ in_years cal (n / 12) + in_year cal (suc (n / 12)) (n % 12)
+pub days_before-at : (cal : Cal) (n : ℕ) → days_before cal n ≡ days_of_years cal (n / 12) + in_year cal (suc (n / 12)) (n % 12)
 days_before-at cal n =
     let split : n ≡ 12 * (n / 12) + n % 12 = omega arith in
     ap (days_before cal) split ∙ from_year cal (n / 12) (n % 12) (omega arith) ∙ ap (λ d. d + in_year cal (suc (n / 12)) (n % 12)) (whole_years cal (n / 12))

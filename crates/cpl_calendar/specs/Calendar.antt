@@ -3,8 +3,8 @@ use Rattle.std.specs.Prelude.{◌≡◌, ℕ, zero, suc, ℤ, pos, ◌+◌, ◌-
 use Rattle.cpl_calendar.specs.declared.calendar.Cal.{Cal}
 use Rattle.cpl_calendar.specs.declared.calendar.Cal.TheVariants.{Gregorian, NoLeap, Day360}
 use Rattle.cpl_calendar.specs.declared.times.Parts.{Parts}
-use Rattle.cpl_calendar.specs.declared.times.TimeFault.{TimeFault}
-use Rattle.cpl_calendar.specs.declared.times.TimeFault.TheVariants.{YearRange, NoSuchDay}
+use Rattle.cpl_calendar.specs.declared.fault.TimeFault.{TimeFault}
+use Rattle.cpl_calendar.specs.declared.fault.TimeFault.TheVariants.{YearRange, NoSuchDay}
 
 -- a leap year: 4 divides it and 100 doesn't, or 400 does
 abbrev pub is_leap : ℕ → Bool
@@ -54,16 +54,6 @@ pub record InTime (cal : Cal) (moment : ℤ) : Type 0 where
   pub begun : pos 0 ≤ℤ moment
   pub not_over : moment <ℤ pos (end_of_time cal)
 
--- What a text of the form can write.
-pub record IsForm (p : Parts) : Type 0 where
-  pub year : p.year ≤ 9999
-  pub month_low : 1 ≤ p.month
-  pub month_high : p.month ≤ 12
-  pub day : p.day ≤ 99
-  pub hour : p.hour ≤ 23
-  pub minute : p.minute ≤ 59
-  pub second : p.second ≤ 59
-
 -- The calendar has this date.
 pub record IsDate (cal : Cal) (year month day : ℕ) : Type 0 where
   pub year_low : 1 ≤ year
@@ -94,8 +84,8 @@ abbrev pub number_if_any : Cal → ℕ → ℕ → ℕ → Option ℕ
 number_if_any cal year month day =
     if has_day cal year month day then Some (date_number cal year month day) else None
 
--- the moment of parts that a text of the form can write, or why the calendar has none
-abbrev pub judged : Cal → Parts → Result ℤ TimeFault
-judged cal p =
+-- the moment of a date and a time of day, or why the calendar has none
+abbrev pub moment_or_fault : Cal → Parts → Result ℤ TimeFault
+moment_or_fault cal p =
     if p.year == 0 then Err YearRange
     else (if has_day cal p.year p.month p.day then Ok (pos (moment_of cal p)) else Err NoSuchDay)

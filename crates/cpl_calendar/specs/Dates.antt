@@ -1,4 +1,4 @@
--- Dates as the code has them.
+-- The code's own steps: dates and the days before them.
 use Rattle.std.specs.Prelude.{◌≡◌, ℕ, ◌-◌, ◌<◌, ◌≤◌}
 use Rattle.cpl_calendar.specs.Calendar.{IsDate, date_number, days_before}
 use Rattle.cpl_calendar.specs.declared.calendar.Cal.{Cal}

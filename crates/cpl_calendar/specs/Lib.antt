@@ -1,4 +1,6 @@
 pub mod Calendar
 pub mod Dates
-pub mod Rows
+pub mod Examples
+pub mod Parts
+pub mod Places
 pub mod Texts

@@ -1,52 +1,46 @@
 //! Moments of a calendar, from their texts and back.
 
-ghost use Rattle.std.specs.Prelude.{◌≡◌, ◌⊎◌, ℕ, ℤ, ◌+◌, ◌*◌, ◌<◌, pos, List, IfOk, IsErrOf};
-ghost use Rattle.std.specs.Option.{ForSome};
-ghost use Rattle.cpl_calendar.specs.Calendar.{InTime, IsForm, IsTime, IsTimeAt, end_of_time, judged, moment_of};
-ghost use Rattle.cpl_calendar.specs.Texts.{Shows, judged_form, read_time, written};
+ghost use Rattle.std.specs.Prelude.{◌≡◌, ◌⊎◌, ℕ, ℤ, ◌+◌, ◌*◌, ◌^◌, ◌<◌, ◌<ℤ◌, pos, List, IfOk, IsErrOf};
+ghost use Rattle.cpl_calendar.specs.Calendar.{InTime, IsTime, IsTimeAt, end_of_time, moment_of, moment_or_fault};
+ghost use Rattle.cpl_calendar.specs.Parts.{parts_at};
+ghost use Rattle.cpl_calendar.specs.Texts.{IsForm, Shows, Spells, read_time};
 
 use crate::calendar::Cal;
 use crate::dates::{Date, date_of, number_of};
+use crate::fault::TimeFault;
 use crate::reading::read_form;
-use crate::times::{Parts, TimeFault};
+use crate::times::Parts;
 use crate::writing::write_form;
 
 /// The moment that a text of the form `YYYY-MM-DDThh:mm:ss` writes: the seconds since the beginning of
 /// 0001-01-01 in that calendar. Takes no memory.
 ///
 /// Errors, the first that holds: `BadTime` where the text isn't of the form, or its month, hour, minute
-/// or second is past its range; `YearRange` in the year 0; `NoSuchDay` where the month has no such day.
+/// or second is out of its range; `YearRange` in the year 0; `NoSuchDay` where the month has no such day.
 ///
 /// Source: this project's own.
 pub fn moment(cal: Cal, text: &[u8]) -> Result<i64, TimeFault>
-    // From whichever parts the text is written, these are judged.
-    ensures form { (p : Parts) → IsForm p → text.now ≡ written p → result ≡ judged cal p }
+    // A text of the form has the moment of its numbers, if the calendar has one.
+    ensures form { (p : Parts) → Spells text.now p → result ≡ moment_or_fault cal p }
     // Any other text is no time.
-    ensures other { ((p : Parts) × IsForm p × (text.now ≡ written p)) ⊎ IsErrOf result TimeFault.BadTime }
+    ensures other { ((p : Parts) × Spells text.now p) ⊎ IsErrOf result TimeFault.BadTime }
     ensures value { result ≡ read_time cal text.now }
     ensures within { IfOk result (InTime cal) }
+    ensures small { IfOk result (λ m. m <ℤ pos (2 ^ 40)) }
     // What is read is the text of its moment, and the text of a moment is read as that.
     ensures shows { IfOk result (Shows cal text.now) }
     ensures again { (m : ℤ) → Shows cal text.now m → result ≡ Ok m }
 {
-    judge_form(cal, read_form(text))
-}
-
-/// The moment of parts, if there are any.
-fn judge_form(cal: Cal, form: Option<Parts>) -> Result<i64, TimeFault>
-    requires { ForSome form IsForm }
-    ensures { result ≡ judged_form cal form }
-{
-    match form {
+    match read_form(text) {
         None => Err(TimeFault::BadTime),
-        Some(parts) => judge(cal, parts),
+        Some(parts) => moment_or_fault(cal, parts),
     }
 }
 
 /// The moment of parts, if the calendar has it.
-fn judge(cal: Cal, parts: Parts) -> Result<i64, TimeFault>
+fn moment_or_fault(cal: Cal, parts: Parts) -> Result<i64, TimeFault>
     requires { IsForm parts }
-    ensures { result ≡ judged cal parts }
+    ensures { result ≡ moment_or_fault cal parts }
 {
     if parts.year == 0 {
         return Err(TimeFault::YearRange);
@@ -80,8 +74,10 @@ pub fn parts(cal: Cal, moment: i64) -> Parts
     requires { InTime cal moment }
     ensures time { IsTime cal result }
     ensures value { pos (moment_of cal result) ≡ moment }
+    // The same by a function that computes.
+    ensures numbers { result ≡ parts_at cal moment }
     // No other parts have this moment.
-    ensures only { (p : Parts) → IsTime cal p → pos (moment_of cal p) ≡ moment → p ≡ result }
+    ensures unique { (p : Parts) → IsTime cal p → pos (moment_of cal p) ≡ moment → p ≡ result }
 {
     parts_after(cal, moment as u64)
 }
@@ -111,7 +107,7 @@ pub fn text_of(cal: Cal, moment: i64) -> [u8; 19]
     requires { InTime cal moment }
     ensures shows { Shows cal result moment }
     // No other text is that of this moment.
-    ensures only { (text : List ℕ) → Shows cal text moment → text ≡ result }
+    ensures unique { (text : List ℕ) → Shows cal text moment → text ≡ result }
     // Reading undoes writing.
     ensures read { read_time cal result ≡ Ok moment }
 {

@@ -1,4 +1,4 @@
-//! A date with a time of day, in its parts, and why there may be none.
+//! A date with a time of day, in its parts.
 
 /// The parts of a date and a time of day.
 #[derive(Clone, Copy, Debug, PartialEq, Eq)]
@@ -15,15 +15,4 @@ pub struct Parts {
     pub minute: u8,
     /// From 0 to 59: there are no leap seconds.
     pub second: u8,
-}
-
-/// Why a text is no time of a calendar: the first of these that holds.
-#[derive(Clone, Copy, Debug, PartialEq, Eq)]
-pub enum TimeFault {
-    /// It isn't of the form `YYYY-MM-DDThh:mm:ss`, or a month, an hour, a minute or a second is past its range.
-    BadTime,
-    /// The year is 0: calendars begin with the year 1.
-    YearRange,
-    /// The month has no such day.
-    NoSuchDay,
 }

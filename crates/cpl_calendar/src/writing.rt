@@ -1,15 +1,14 @@
 //! Writing the text of a time, `YYYY-MM-DDThh:mm:ss`.
 
 ghost use Rattle.std.specs.Prelude.{◌≡◌, ◌+◌, ◌/◌, ◌%◌};
-ghost use Rattle.cpl_calendar.specs.Calendar.{IsForm};
-ghost use Rattle.cpl_calendar.specs.Texts.{written};
+ghost use Rattle.cpl_calendar.specs.Texts.{IsForm, text_of_parts};
 
 use crate::times::Parts;
 
 /// The text of parts that are of the form.
 pub fn write_form(parts: Parts) -> [u8; 19]
     requires { IsForm parts }
-    ensures { result ≡ written parts }
+    ensures { result ≡ text_of_parts parts }
 {
     let century = (parts.year / 100) as u8;
     let year = (parts.year % 100) as u8;

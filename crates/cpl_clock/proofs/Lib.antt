@@ -1,1 +1,1 @@
-pub mod Rings
+pub mod AlarmFacts

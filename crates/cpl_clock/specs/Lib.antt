@@ -1,3 +1,3 @@
 pub mod Alarm
 pub mod Clock
-pub mod Rows
+pub mod Examples

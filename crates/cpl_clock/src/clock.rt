@@ -1,9 +1,9 @@
 //! The clock of a run: it goes from its start to its stop in steps of one length.
 
 ghost use Rattle.std.specs.Prelude.{◌≡◌, ◌^◌, ◌↔◌, ◌+ℤ◌, ◌<ℤ◌, ◌≤ℤ◌, pos, IsTrue, IfOk, IsErrOf, OnErr, OnOk};
-ghost use Rattle.cpl_clock.specs.Clock.{ClockView, Goes, IsSound, opened};
+ghost use Rattle.cpl_clock.specs.Clock.{ClockView, Goes, IsSound, clock_at_start};
 
-use crate::faults::ClockFault;
+use crate::fault::ClockFault;
 use std::marker::Model;
 
 /// A clock of a run. It is seen as its current moment, its stop and its step.
@@ -27,8 +27,8 @@ impl Model for Clock {
 }
 
 impl Clock {
-    /// A clock that stands at its start. Start and stop lie from 0 to 2^40, and the step is 2^40 at the
-    /// most.
+    /// A clock that stands at its start. Start and stop lie from 0 to 2^40, and the step is at most
+    /// 2^40.
     ///
     /// Errors: `StepZero` where the step is less than a second; else `StopNotAfter` where the stop isn't
     /// after the start.
@@ -40,7 +40,7 @@ impl Clock {
         requires stop_low { pos 0 ≤ℤ stop }
         requires stop_high { stop ≤ℤ pos (2 ^ 40) }
         requires step_high { step ≤ℤ pos (2 ^ 40) }
-        ensures value { result ≡ opened start stop step }
+        ensures value { result ≡ clock_at_start start stop step }
         ensures no_step { IsErrOf result ClockFault.StepZero ↔ (step <ℤ pos 1) }
         ensures no_time { IsErrOf result ClockFault.StopNotAfter
             ↔ ((pos 1 ≤ℤ step) × (stop ≤ℤ start)) }

@@ -3,10 +3,10 @@
 
 mod alarm;
 mod clock;
-mod faults;
-mod rows;
+mod examples;
+mod fault;
 
 pub use alarm::Alarm;
 pub use clock::Clock;
-pub use faults::ClockFault;
-pub use rows::clock_rows;
+pub use examples::clock_examples;
+pub use fault::ClockFault;

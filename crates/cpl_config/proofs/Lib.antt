@@ -1,3 +1,3 @@
-pub mod Labels
-pub mod Machine
-pub mod Shorts
+mod KeptFacts
+mod StepsFacts
+mod WordsFacts

@@ -1,17 +1,19 @@
-//! The items of a resource file: value items and tables, each known by its label.
+//! The items of a resource file: value items and tables, each under its label.
 //!
 //! What a label means, and what its words are to be, is no matter of this crate.
 #![tactic(auto)]
 
-mod faults;
+mod entry;
+mod examples;
+mod fault;
 mod items;
 mod reading;
 mod row;
-mod rows;
 mod words;
 
-pub use faults::ItemFault;
+pub use entry::{Entry, Item};
+pub use examples::item_examples;
+pub use fault::ItemFault;
 pub use items::Items;
 pub use reading::read_items;
 pub use row::{Row, Table};
-pub use rows::item_rows;

@@ -1,28 +1,26 @@
 //! Reading the lines of a resource file as its items, line by line.
 
-ghost use Rattle.std.specs.Prelude.{◌≡◌, ◌-◌, ◌^◌, ◌<◌, Ok, length, map, option_map, if◌then◌else◌, IfOk, IfErr, IfSome};
+ghost use Rattle.std.specs.Prelude.{◌≡◌, ◌-◌, ◌^◌, ◌<◌, length, map, option_map, if◌then◌else◌, IfOk, IfSome};
 ghost use Rattle.std.specs.List.{join_with_byte};
+ghost use Rattle.cpl_base.specs.Gives.{Gives};
+ghost use Rattle.cpl_base.specs.Words.{texts};
 ghost use Rattle.cpl_text.specs.Lines.{lines_of};
 ghost use Rattle.cpl_text.specs.Spans.{IsLines, Stands, StandsIn, line_in, part_in};
-ghost use Rattle.cpl_config.specs.Items.{items_of};
-ghost use Rattle.cpl_config.specs.Kept.{texts};
-ghost use Rattle.cpl_config.specs.Opens.{CanJoin, table_so_far};
-ghost use Rattle.cpl_config.specs.Reads.{IsCaused, plain};
-ghost use Rattle.cpl_config.specs.Words.{is_stray as is_stray_line};
-ghost use Rattle.cpl_config.specs.Steps.{inside_of, line_of, opening, outside_of};
+ghost use Rattle.cpl_config.specs.Items.{items_of, line_fault, word_line};
+ghost use Rattle.cpl_config.specs.Steps.{CanJoin, progress_by_opening, progress_inside, progress_of, progress_outside, table_so_far};
 
-use crate::faults::ItemFault;
+use crate::fault::ItemFault;
 use crate::items::Items;
 use crate::row::{Row, Table};
-use crate::words::{closes, is_stray, opened, row, value};
-use cpl_base::{Many, Memory};
+use crate::words::{is_stray, is_table_end, row, table_label, value_item};
+use cpl_base::{Many, Memory, Text};
 use cpl_text::{Line, Word};
 use std::alloc::Global;
 
 /// A table that is being read.
 #[derive(Drop)]
-pub(crate) struct Open {
-    label: Vec<u8>,
+pub(crate) struct OpenTable {
+    label: Text,
     line: u32,
     rows: Vec<Row>,
 }
@@ -45,8 +43,7 @@ pub(crate) struct Open {
 pub fn read_items(alloc: Global, bytes: &[u8], lines: &[Line]) -> Result<Items, ItemFault>
     requires size { length bytes.now < 2 ^ 32 - 1 }
     requires lines { IsLines bytes.now lines.now }
-    ensures items { IfOk result (λ items. items_of (map plain (lines_of bytes.now)) ≡ Ok items) }
-    ensures fault { IfErr result (IsCaused (items_of (map plain (lines_of bytes.now)))) }
+    ensures { Gives ItemFault.Memory (λ items. items) result (items_of (map word_line (lines_of bytes.now))) }
 {
     let mut items = Items::new(alloc);
     let mut table = None;
@@ -60,18 +57,10 @@ pub fn read_items(alloc: Global, bytes: &[u8], lines: &[Line]) -> Result<Items, 
     }
 }
 
-/// What stands between the ends of a word.
-fn word_text(bytes: &[u8], word: Word) -> &[u8]
-    requires { Stands bytes.now (part_in bytes.now word) }
-    ensures { result.now ≡ (part_in bytes.entry.now word).text }
-{
-    &bytes[word.start..word.end]
-}
-
 /// The words of a line of the text.
 fn line_texts<'a>(alloc: Global, bytes: &'a [u8], line: &Line) -> Result<Vec<&'a [u8]>, Memory>
     requires { StandsIn bytes.now (line_in bytes.now line.now) }
-    ensures { IfOk result (λ words. texts words.items ≡ (plain (line_in bytes.entry.now line.now)).words) }
+    ensures { IfOk result (λ words. texts words.items ≡ (word_line (line_in bytes.entry.now line.now)).words) }
 {
     let mut words = Vec::with_capacity(alloc, line.words.len())?;
     for word in &line.words {
@@ -80,19 +69,26 @@ fn line_texts<'a>(alloc: Global, bytes: &'a [u8], line: &Line) -> Result<Vec<&'a
     Ok(words)
 }
 
+/// What stands between the ends of a word.
+fn word_text(bytes: &[u8], word: Word) -> &[u8]
+    requires { Stands bytes.now (part_in bytes.now word) }
+    ensures { result.now ≡ (part_in bytes.entry.now word).text }
+{
+    &bytes[word.start..word.end]
+}
+
 /// Reads a line; the answer is the table that is open behind it, if one is.
 fn read_line(
     alloc: Global,
     items: &mut Items,
-    table: Option<Open>,
+    table: Option<OpenTable>,
     number: u32,
     words: &[&[u8]],
-) -> Result<Option<Open>, ItemFault>
+) -> Result<Option<OpenTable>, ItemFault>
     requires short { length (join_with_byte 32 (texts words.now)) < 2 ^ 32 }
     requires joins { IfSome table (CanJoin items.old) }
-    ensures items { IfOk result (λ after. line_of items.old (option_map table_so_far table) (record { number = number; words = texts words.now }) ≡ Ok (items.new, option_map table_so_far after)) }
+    ensures gives { Gives ItemFault.Memory (λ after. (items.new, option_map table_so_far after)) result (progress_of items.old (option_map table_so_far table) (record { number = number; words = texts words.now })) }
     ensures joins { IfOk result (λ after. IfSome after (CanJoin items.new)) }
-    ensures fault { IfErr result (IsCaused (line_of items.old (option_map table_so_far table) (record { number = number; words = texts words.now }))) }
 {
     match table {
         None => read_outside(alloc, items, number, words),
@@ -106,23 +102,22 @@ fn read_outside(
     items: &mut Items,
     number: u32,
     words: &[&[u8]],
-) -> Result<Option<Open>, ItemFault>
+) -> Result<Option<OpenTable>, ItemFault>
     requires { length (join_with_byte 32 (texts words.now)) < 2 ^ 32 }
-    ensures items { IfOk result (λ table. outside_of items.old (record { number = number; words = texts words.now }) ≡ Ok (items.new, option_map table_so_far table)) }
+    ensures gives { Gives ItemFault.Memory (λ table. (items.new, option_map table_so_far table)) result (progress_outside items.old (record { number = number; words = texts words.now })) }
     ensures joins { IfOk result (λ table. IfSome table (CanJoin items.new)) }
-    ensures fault { IfErr result (IsCaused (outside_of items.old (record { number = number; words = texts words.now }))) }
 {
-    if let Some(label) = opened(words) {
+    if let Some(label) = table_label(words) {
         return open_table(alloc, items, number, label);
     }
-    let Some(item) = value(words) else {
-        return Err(not_an_item(number, words));
+    let Some(item) = value_item(words) else {
+        return Err(line_fault(number, words));
     };
     if items.has_value(item.label) {
         return Err(ItemFault::LabelTwice { line: number });
     }
     let row = row(alloc, number, item.first, item.more)?;
-    items.add_value(Vec::from_slice(alloc, item.label)?, row)?;
+    items.add_value(Text::of(alloc, item.label)?, row)?;
     Ok(None)
 }
 
@@ -132,24 +127,23 @@ fn open_table(
     items: &Items,
     number: u32,
     label: &[u8],
-) -> Result<Option<Open>, ItemFault>
-    ensures items { IfOk result (λ table. opening items.now label.now number ≡ Ok (items.now, option_map table_so_far table)) }
+) -> Result<Option<OpenTable>, ItemFault>
+    ensures gives { Gives ItemFault.Memory (λ table. (items.now, option_map table_so_far table)) result (progress_by_opening items.now label.now number) }
     ensures joins { IfOk result (λ table. IfSome table (CanJoin items.now)) }
-    ensures fault { IfErr result (IsCaused (opening items.now label.now number)) }
 {
     if items.has_table(label) {
         return Err(ItemFault::LabelTwice { line: number });
     }
-    Ok(Some(Open {
-        label: Vec::from_slice(alloc, label)?,
+    Ok(Some(OpenTable {
+        label: Text::of(alloc, label)?,
         line: number,
         rows: Vec::new(alloc),
     }))
 }
 
 /// The fault of a line that is neither a value item nor the opening of a table.
-fn not_an_item(number: u32, words: &[&[u8]]) -> ItemFault
-    ensures { result ≡ (if is_stray_line (texts words.now) then ItemFault.StrayClose number else ItemFault.BadLine number) }
+fn line_fault(number: u32, words: &[&[u8]]) -> ItemFault
+    ensures { result ≡ line_fault (record { number = number; words = texts words.now }) }
 {
     if is_stray(words) {
         ItemFault::StrayClose { line: number }
@@ -162,18 +156,18 @@ fn not_an_item(number: u32, words: &[&[u8]]) -> ItemFault
 fn read_inside(
     alloc: Global,
     items: &mut Items,
-    table: Open,
+    table: OpenTable,
     number: u32,
     words: &[&[u8]],
-) -> Result<Option<Open>, Memory>
+) -> Result<Option<OpenTable>, Memory>
     requires short { length (join_with_byte 32 (texts words.now)) < 2 ^ 32 }
     requires joins { CanJoin items.old table }
-    ensures items { IfOk result (λ after. inside_of items.old (table_so_far table) (record { number = number; words = texts words.now }) ≡ (items.new, option_map table_so_far after)) }
+    ensures items { IfOk result (λ after. progress_inside items.old (table_so_far table) (record { number = number; words = texts words.now }) ≡ (items.new, option_map table_so_far after)) }
     ensures joins { IfOk result (λ after. IfSome after (CanJoin items.new)) }
 {
     let mut table = table;
-    if closes(words) {
-        let Open { label, line, rows } = table;
+    if is_table_end(words) {
+        let OpenTable { label, line, rows } = table;
         let rows = Many::of(rows);
         items.add_table(label, Table { line, rows })?;
         return Ok(None);

@@ -1,9 +1,9 @@
 //! What the words of one line say.
 
 ghost use Rattle.std.specs.Prelude.{◌≡◌, IfOk, option_map};
+ghost use Rattle.cpl_base.specs.Words.{texts};
 ghost use Rattle.cpl_config.specs.declared.row.Row.{Row};
-ghost use Rattle.cpl_config.specs.Kept.{texts};
-ghost use Rattle.cpl_config.specs.Words.{closes as closes_line, ends_in_colons as ends_so, is_colons as is_colons_word, is_stray as is_stray_line, label_of, opened_by, value_in, values_of};
+ghost use Rattle.cpl_config.specs.Words.{ends_in_colons, is_colons, is_stray, is_table_end, label_before_colons, table_label, value_item, values_of};
 
 use crate::row::Row;
 use cpl_base::{Many, Memory, Text, cut};
@@ -11,7 +11,7 @@ use std::alloc::Global;
 
 /// A value item: its label, and its values; the first is empty where nothing stands right behind the
 /// colon.
-#[derive(Clone, Copy, Debug)]
+#[derive(Clone, Copy)]
 pub struct ValueItem<'a> {
     /// What stands before the first colon.
     pub label: &'a [u8],
@@ -21,45 +21,19 @@ pub struct ValueItem<'a> {
     pub more: &'a [&'a [u8]],
 }
 
-/// Whether a word is `::`.
-fn is_colons(word: &[u8]) -> bool
-    ensures { result ≡ is_colons_word word.now }
-{
-    word == b"::".as_slice()
-}
-
-/// Whether a word ends in `::`.
-fn ends_in_colons(word: &[u8]) -> bool
-    ensures { result ≡ ends_so word.now }
-{
-    let (_, end) = word.split_at(word.len().saturating_sub(2));
-    is_colons(end)
-}
-
-/// The label in front of the `::` at a word's end, if there is one.
-fn label(word: &[u8]) -> Option<&[u8]>
-    ensures { option_map (λ label. label.now) result ≡ label_of word.now }
-{
-    if ends_in_colons(word) && word.len() > 2 {
-        Some(&word[..word.len() - 2])
-    } else {
-        None
-    }
-}
-
 /// The label of the table that a line opens, if it opens one.
-pub fn opened<'a>(words: &[&'a [u8]]) -> Option<&'a [u8]>
-    ensures { option_map (λ label. label.now) result ≡ opened_by (texts words.now) }
+pub fn table_label<'a>(words: &[&'a [u8]]) -> Option<&'a [u8]>
+    ensures { option_map (λ label. label.now) result ≡ table_label (texts words.now) }
 {
     match words {
-        [word] => label(word),
+        [word] => label_before_colons(word),
         _ => None,
     }
 }
 
 /// The value item that a line is, if it is one.
-pub fn value<'a>(words: &'a [&'a [u8]]) -> Option<ValueItem<'a>>
-    ensures { option_map (λ v. (v.label.now, values_of v.first.now (texts v.more.now))) result ≡ value_in (texts words.entry.now) }
+pub fn value_item<'a>(words: &'a [&'a [u8]]) -> Option<ValueItem<'a>>
+    ensures { option_map (λ v. (v.label.now, values_of v.first.now (texts v.more.now))) result ≡ value_item (texts words.entry.now) }
 {
     let (word, more) = words.split_first()?;
     if ends_in_colons(word) {
@@ -74,7 +48,7 @@ pub fn value<'a>(words: &'a [&'a [u8]]) -> Option<ValueItem<'a>>
 
 /// Whether the first word of a line is `::`.
 pub fn is_stray(words: &[&[u8]]) -> bool
-    ensures { result ≡ is_stray_line (texts words.now) }
+    ensures { result ≡ is_stray (texts words.now) }
 {
     match words {
         [word, ..] => is_colons(word),
@@ -83,8 +57,8 @@ pub fn is_stray(words: &[&[u8]]) -> bool
 }
 
 /// Whether a line closes a table.
-pub fn closes(words: &[&[u8]]) -> bool
-    ensures { result ≡ closes_line (texts words.now) }
+pub fn is_table_end(words: &[&[u8]]) -> bool
+    ensures { result ≡ is_table_end (texts words.now) }
 {
     match words {
         [word] => is_colons(word),
@@ -107,4 +81,30 @@ pub fn row(alloc: Global, number: u32, first: &[u8], more: &[&[u8]]) -> Result<R
         line: number,
         words: Many::of(words),
     })
+}
+
+/// Whether a word is `::`.
+fn is_colons(word: &[u8]) -> bool
+    ensures { result ≡ is_colons word.now }
+{
+    word == b"::".as_slice()
+}
+
+/// Whether a word ends in `::`.
+fn ends_in_colons(word: &[u8]) -> bool
+    ensures { result ≡ ends_in_colons word.now }
+{
+    let (_, end) = word.split_at(word.len().saturating_sub(2));
+    is_colons(end)
+}
+
+/// The label in front of the `::` at a word's end, if there is one.
+fn label_before_colons(word: &[u8]) -> Option<&[u8]>
+    ensures { option_map (λ label. label.now) result ≡ label_before_colons word.now }
+{
+    if ends_in_colons(word) && word.len() > 2 {
+        Some(&word[..word.len() - 2])
+    } else {
+        None
+    }
 }

@@ -1,7 +1,8 @@
-mod Adding
-mod Agreeing
-mod Ascending
-mod Groups
-mod Names
-mod Noting
-mod Synonyms
+mod AddingFacts
+mod AscendingFacts
+mod KeptFacts
+mod NamesFacts
+mod NotedFacts
+mod NumbersFacts
+mod SynonymsFacts
+mod UnitsFacts

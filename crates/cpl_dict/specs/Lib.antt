@@ -1,3 +1,4 @@
 pub mod Dict
-pub mod Held
-pub mod Rows
+pub mod Examples
+pub mod Kept
+pub mod Numbers

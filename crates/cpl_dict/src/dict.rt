@@ -3,7 +3,7 @@
 ghost use Rattle.std.specs.Prelude.{◌≡◌, option_map};
 
 use crate::fault::DictFault;
-use crate::numbers::{make_room, meet, note};
+use crate::numbers::{have_common, make_room, note};
 use crate::places::places_of;
 use cpl_base::Text;
 use indexmap::IndexMap;
@@ -11,15 +11,18 @@ use std::alloc::Global;
 use std::marker::Model;
 
 /// A dictionary of fields.
+///
+/// Contracts see the names with their units, in the order in which they were added, and for each synonym
+/// call the names that it gave.
 #[derive(Debug, Drop)]
 pub struct Dict {
     alloc: Global,
-    /// Each name with its units, in the order in which they were added: a name's place is its index.
+    /// Each name with its units, in the order in which they were added: its index is its number.
     names: IndexMap<Vec<u8>, Text>,
-    /// For each place the numbers of the synonym calls that gave its name, ascending.
-    calls: Vec<Vec<usize>>,
-    /// For each synonym call the places of the names that it gave.
-    groups: Vec<Vec<usize>>,
+    /// For each name the numbers of the synonym calls that gave it, ascending.
+    name_calls: Vec<Vec<usize>>,
+    /// For each synonym call the numbers of the names that it gave.
+    call_names: Vec<Vec<usize>>,
 }
 
 impl Model for Dict {
@@ -27,29 +30,30 @@ impl Model for Dict {
 
     ghost Value = { Dictionary };
 
-    ghost use Rattle.cpl_dict.specs.Held.{IsSound, seen};
+    ghost use Rattle.cpl_dict.specs.Kept.{IsSound, dictionary_of};
 
-    ghost view = { seen };
+    ghost view = { dictionary_of };
 
     ghost invariant = { IsSound };
 }
 
 impl Dict {
-    ghost use Rattle.std.specs.Prelude.{◌≡◌, ◌≢◌, [], Ok, Err, OnOk, OnErr, IfErr, option_map};
+    ghost use Rattle.std.specs.Prelude.{◌≡◌, ◌<◌, [], All, OnErr, IfErr, IfSome, length, option_map};
     ghost use Rattle.std.specs.List.{list_all};
-    ghost use Rattle.cpl_dict.specs.Dict.{added, bond_of, bound, has, is_known, same_units, units_agree, units_of};
-    ghost use Rattle.cpl_dict.specs.Held.{numbers_from};
-    ghost use Rattle.cpl_dict.specs.declared.fault.DictFault.TheVariants.{Memory as OutOfMemory};
+    ghost use Rattle.std.specs.List.Sorted.{IsStrictlyIncreasing};
+    ghost use Rattle.cpl_base.specs.Gives.{Gives};
+    ghost use Rattle.cpl_dict.specs.Dict.{bond_of, is_among, is_known, same_units, units_agree, units_of, with_name, with_synonyms};
+    ghost use Rattle.cpl_dict.specs.Numbers.{IsNumbered, call_names_of, calls_of, number_of, places_from};
 
     /// A dictionary without names. Takes no memory.
     pub fn new(alloc: Global) -> Dict
-        ensures { result ≡ record { names = []; groups = [] } }
+        ensures { result ≡ record { names = []; calls = [] } }
     {
         Dict {
             alloc,
             names: IndexMap::new(alloc),
-            calls: Vec::new(alloc),
-            groups: Vec::new(alloc),
+            name_calls: Vec::new(alloc),
+            call_names: Vec::new(alloc),
         }
     }
 
@@ -60,18 +64,17 @@ impl Dict {
     ///
     /// Source: NUOPC Layer Reference, Field Dictionary.
     pub fn add(&mut self, name: Text, units: Text) -> Result<(), DictFault>
-        ensures ok { OnOk result (added self.old name units ≡ Ok self.new) }
-        ensures refused { IfErr result (λ fault. fault ≢ OutOfMemory → added self.old name units ≡ Err fault) }
-        ensures twice { IfErr (added self.old name units) (λ fault. result ≡ Err fault) }
+        ensures gives { Gives DictFault.Memory (λ _. self.new) result (with_name self.old name units) }
+        ensures twice { IfErr (with_name self.old name units) (λ fault. result ≡ Err fault) }
         ensures err { OnErr result (self.new ≡ self.old) }
     {
         if self.units(name.bytes()).is_some() {
             return Err(DictFault::NameTwice);
         }
         let key = Vec::from_slice(self.alloc, name.bytes())?;
-        self.calls.reserve(1)?;
+        self.name_calls.reserve(1)?;
         self.names.insert(key, units)?;
-        self.calls.push(Vec::new(self.alloc)).unwrap();
+        self.name_calls.push(Vec::new(self.alloc)).unwrap();
         Ok(())
     }
 
@@ -84,9 +87,8 @@ impl Dict {
     ///
     /// Source: NUOPC Layer Reference, Field Dictionary.
     pub fn synonym(&mut self, names: &[Text]) -> Result<(), DictFault>
-        ensures ok { OnOk result (bound self.old names.now ≡ Ok self.new) }
-        ensures refused { IfErr result (λ fault. fault ≢ OutOfMemory → bound self.old names.now ≡ Err fault) }
-        ensures unfit { IfErr (bound self.old names.now) (λ fault. result ≡ Err fault) }
+        ensures gives { Gives DictFault.Memory (λ _. self.new) result (with_synonyms self.old names.now) }
+        ensures unfit { IfErr (with_synonyms self.old names.now) (λ fault. result ≡ Err fault) }
         ensures err { OnErr result (self.new ≡ self.old) }
     {
         if !self.are_known(names) {
@@ -96,10 +98,14 @@ impl Dict {
             return Err(DictFault::UnitsDiffer);
         }
         let places = places_of(self.alloc, &self.names, names)?;
-        make_room(&mut self.calls, places.as_slice())?;
-        self.groups.reserve(1)?;
-        note(&mut self.calls, places.as_slice(), self.groups.len());
-        self.groups.push(places).unwrap();
+        make_room(&mut self.name_calls, places.as_slice())?;
+        self.call_names.reserve(1)?;
+        note(
+            &mut self.name_calls,
+            places.as_slice(),
+            self.call_names.len(),
+        );
+        self.call_names.push(places).unwrap();
         Ok(())
     }
 
@@ -122,19 +128,82 @@ impl Dict {
         if a == b {
             return 2;
         }
-        if meet(self.calls_of(a), self.calls_of(b)) {
+        if have_common(self.calls_by_name(a), self.calls_by_name(b)) {
             1
         } else {
             0
         }
     }
 
+    /// How many names there are. Constant time.
+    ///
+    /// Source: this project's own.
+    pub fn name_count(&self) -> usize
+        ensures { result ≡ length self.now.names }
+    {
+        self.names.len()
+    }
+
+    /// How many synonym calls there were that weren't refused. Constant time.
+    ///
+    /// Source: this project's own.
+    pub fn call_count(&self) -> usize
+        ensures { result ≡ length self.now.calls }
+    {
+        self.call_names.len()
+    }
+
+    /// The number of a name, if it is there: how many names were added before it. Constant time, and no
+    /// memory.
+    ///
+    /// Source: this project's own.
+    pub fn number(&self, name: &[u8]) -> Option<usize>
+        ensures number { result ≡ number_of self.now name.now }
+        ensures within { IfSome result (λ number. number < length self.now.names) }
+    {
+        self.names.get_index_of(name)
+    }
+
+    /// The numbers of the synonym calls that gave the name of this number, ascending: a call's number is
+    /// how many calls were before it. Constant time, and no memory. The number is below that of names.
+    ///
+    /// Source: this project's own.
+    pub fn calls(&self, number: usize) -> &[usize]
+        requires { number < length self.now.names }
+        ensures calls { result.now ≡ calls_of self.now number }
+        ensures ascending { IsStrictlyIncreasing result.now }
+        ensures within { All (λ call. call < length self.now.calls) result.now }
+    {
+        self.name_calls[number].as_slice()
+    }
+
+    /// The numbers of the names that the synonym call of this number gave, in its order. Constant time,
+    /// and no memory. The number is below that of calls.
+    ///
+    /// Source: this project's own.
+    pub fn call_names(&self, call: usize) -> &[usize]
+        requires { call < length self.now.calls }
+        ensures names { result.now ≡ call_names_of self.now call }
+        ensures within { All (λ number. number < length self.now.names) result.now }
+    {
+        self.call_names[call].as_slice()
+    }
+
+    /// What numbers say of names and of bonds, as a fact for proofs.
+    ///
+    /// Source: this project's own.
+    pub fn number_laws(&self)
+        ensures { IsNumbered self.now }
+    {
+        let _names = &self.names;
+    }
+
     /// The numbers of the synonym calls that gave a name, ascending.
-    fn calls_of(&self, name: &[u8]) -> &[usize]
-        ensures { result.now ≡ numbers_from 0 (λ group. has group name.now) self.now.groups }
+    fn calls_by_name(&self, name: &[u8]) -> &[usize]
+        ensures { result.now ≡ places_from 0 (λ call. is_among call name.now) self.now.calls }
     {
         match self.names.get_index_of(name) {
-            Some(place) => self.calls[place].as_slice(),
+            Some(number) => self.name_calls[number].as_slice(),
             None => &[],
         }
     }

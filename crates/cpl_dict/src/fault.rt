@@ -1,7 +1,7 @@
 //! Why a dictionary refuses a call.
 
 ghost use Rattle.std.specs.Prelude.{◌≡◌};
-ghost use Rattle.cpl_dict.specs.declared.fault.DictFault.TheVariants.{Memory as OutOfMemory};
+ghost use Rattle.cpl_dict.specs.declared.fault.DictFault.{DictFault};
 
 use std::alloc::{AllocError, AllocFailed};
 
@@ -19,7 +19,7 @@ pub enum DictFault {
 }
 
 impl From<AllocError> for DictFault {
-    ghost from_gives = { λ _ fault. fault ≡ OutOfMemory };
+    ghost from_gives = { λ _ fault. fault ≡ DictFault.Memory };
 
     fn from(_error: AllocError) -> DictFault {
         DictFault::Memory
@@ -27,7 +27,7 @@ impl From<AllocError> for DictFault {
 }
 
 impl<T: Drop> From<AllocFailed<T>> for DictFault {
-    ghost from_gives = { λ _ fault. fault ≡ OutOfMemory };
+    ghost from_gives = { λ _ fault. fault ≡ DictFault.Memory };
 
     fn from(_failed: AllocFailed<T>) -> DictFault {
         DictFault::Memory

@@ -1,8 +1,9 @@
 //! Ascending lists of numbers, one for each place.
 
 ghost use Rattle.std.specs.Prelude.{◌≡◌, ◌<◌, false, OnOk, All, length};
-ghost use Rattle.std.specs.List.{list_any, HoldsAt};
-ghost use Rattle.cpl_dict.specs.Held.{HasRoom, IsAscending, IsNotedAt, ends_with, has_place, lists_of, with_number};
+ghost use Rattle.std.specs.List.{HoldsAt};
+ghost use Rattle.cpl_dict.specs.Kept.{HasRoom, IsAscending, IsNotedAt, ends_with, lists_of, with_number};
+ghost use Rattle.cpl_dict.specs.Numbers.{have_common};
 
 use std::alloc::AllocError;
 
@@ -43,10 +44,10 @@ fn note_once(list: &mut Vec<usize>, number: usize)
 }
 
 /// Whether two ascending lists have a number in common.
-pub(crate) fn meet(a: &[usize], b: &[usize]) -> bool
+pub(crate) fn have_common(a: &[usize], b: &[usize]) -> bool
     requires a { IsAscending 0 a.now }
     requires b { IsAscending 0 b.now }
-    ensures { result ≡ list_any (has_place b.now) a.now }
+    ensures { result ≡ have_common a.now b.now }
 {
     let (mut i, mut j) = (0, 0);
     while i < a.len() && j < b.len() {

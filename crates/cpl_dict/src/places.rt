@@ -4,7 +4,7 @@ ghost use Rattle.std.specs.Prelude.{IfOk, IsTrue, is_some};
 ghost use Rattle.std.specs.List.{list_all};
 ghost use Rattle.std.specs.Map.{lookup};
 ghost use Rattle.std.specs.Str.{bytes_eq};
-ghost use Rattle.cpl_dict.specs.Held.{IsPlacedAs, names_of};
+ghost use Rattle.cpl_dict.specs.Kept.{IsPlacedAs, names_of};
 
 use cpl_base::Text;
 use indexmap::IndexMap;

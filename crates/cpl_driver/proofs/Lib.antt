@@ -1,6 +1,4 @@
-pub mod Beginnings
-pub mod CallLaws
-pub mod Examples
-pub mod NumberWords
-pub mod Steps
-pub mod Texts
+pub mod CallsFacts
+pub mod ExamplesFacts
+pub mod NamesFacts
+pub mod RunsFacts

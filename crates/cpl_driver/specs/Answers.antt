@@ -2,7 +2,7 @@
 use Rattle.std.specs.Prelude.{ℕ, ℤ, pos, ◌+ℤ◌, Bool, false, not, ◌&&◌, ◌==◌, if◌then◌else◌, nat_lt, List, [], ◌∷◌, ◌++◌, length, fold, codes, decimal, Option, Some, None}
 use Rattle.std.specs.Int.{int_min, int_max}
 use Rattle.std.specs.Str.{bytes_eq}
-use Rattle.cpl_base.specs.Numerals.{written}
+use Rattle.cpl_base.specs.Numerals.{value_text}
 use Rattle.cpl_base.specs.Outside.{Files}
 use Rattle.cpl_driver.specs.Files.{system_of}
 use Rattle.cpl_driver.specs.Runs.{World, operations, serial}
@@ -72,7 +72,7 @@ component_line name runs clock = codes "component " ++ name ++ codes " runs " ++
 -- the least, the greatest and the sum of a variable over its cells
 abbrev pub variable_line : List ℕ → List ℤ → List ℕ
 variable_line name cells =
-    codes "var " ++ name ++ codes " min " ++ written (least cells) ++ codes " max " ++ written (most cells) ++ codes " sum " ++ written (sum cells) ++ end_of_line
+    codes "var " ++ name ++ codes " min " ++ value_text (least cells) ++ codes " max " ++ value_text (most cells) ++ codes " sum " ++ value_text (sum cells) ++ end_of_line
 
 -- what a run of a system leaves, as a text
 unfoldable pub report : System → ℕ → World → List ℕ

@@ -2,7 +2,7 @@
 -- delivered. Nothing here asks that the shelf or the streams tell what they hold.
 use Rattle.std.specs.Prelude.{◌≡◌, ℕ, ◌<◌, ◌≤◌, ◌⊎◌, Bool, true, false, if◌then◌else◌, List, [], length, take, Option, Some, None, IfSome}
 use Rattle.cpl_base.specs.Loading.{IsLoaded, IsLonger, IsMissing}
-use Rattle.cpl_base.specs.Outside.{Files, Rises, appended}
+use Rattle.cpl_base.specs.Outside.{Files, Rises, bytes_after}
 use Rattle.cpl_driver.specs.Answers.{Reply, file_to_run, most_bytes, reply_for, too_long, unread, usage}
 use Rattle.cpl_driver.specs.Files.{system_of}
 use Rattle.cpl_driver.specs.declared.status.Status.{Status}
@@ -66,14 +66,14 @@ pub record IsUntouched (stream : Stream) : Type 0 where
 
 -- a stream that got a text, and had no fault
 pub record Gets (text : List ℕ) (stream : Stream) : Type 0 where
-  pub all : stream.after ≡ appended stream.before text
+  pub all : stream.after ≡ bytes_after stream.before text
   pub quiet : stream.faults_after ≡ stream.faults_before
 
 -- a stream whose count of faults rose, and that got a proper prefix of a text
 pub record IsCut (text : List ℕ) (stream : Stream) : Type 0 where
   pub part : ℕ
   pub proper : part < length text
-  pub prefix : stream.after ≡ appended stream.before (take part text)
+  pub prefix : stream.after ≡ bytes_after stream.before (take part text)
   pub counts : stream.faults_before ≤ stream.faults_after
   pub rises : Rises stream.faults_before stream.faults_after
 
@@ -91,6 +91,8 @@ goes_out status.Memory = false
 abbrev pub Delivered : Status → List ℕ → Stream → Status → Type 0
 Delivered wanted text mine given = ((given ≡ wanted) × Gets text mine) ⊎ ((given ≡ status.WriteFault) × IsCut text mine)
 
+-- A reply of this status and text was delivered: to the stream where it belongs, whole or cut short by a fault of a write,
+-- and nothing to the other.
 pub record IsDelivery (wanted : Status) (text : List ℕ) (out err : Stream) (given : Status) : Type 0 where
   pub mine : Delivered wanted text (if goes_out wanted then out else err) given
   pub other : IsUntouched (if goes_out wanted then err else out)

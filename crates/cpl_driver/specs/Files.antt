@@ -4,15 +4,15 @@ use Rattle.std.specs.Prelude.{ℕ, ℤ, Bool, true, false, not, ◌&&◌, ◌||�
 use Rattle.std.specs.List.{slice_split, list_all, join_with_byte}
 use Rattle.std.specs.Result.{result_ok}
 use Rattle.std.specs.Str.{bytes_eq}
-use Rattle.cpl_base.specs.Chain.{◌>>=◌, when, only}
-use Rattle.cpl_base.specs.Numerals.{cut_at}
-use Rattle.cpl_base.specs.Words.{is_some_of, words_of}
+use Rattle.cpl_base.specs.Chain.{◌>>=◌, single, some_if}
+use Rattle.cpl_base.specs.Numerals.{cut_at, number_word}
+use Rattle.cpl_base.specs.Words.{is_name, is_name_byte, is_some_of, rest_behind, words_of}
 use Rattle.cpl_formula.specs.declared.formula.Parsed.{Parsed}
 use Rattle.cpl_formula.specs.declared.formula.Read.{Read}
 use Rattle.cpl_formula.specs.declared.formula.ReadName.{ReadName}
 use Rattle.cpl_formula.specs.declared.formula.ReadName.TheVariants.{Field}
 use Rattle.cpl_formula.specs.Steps.{parsed_of}
-use Rattle.cpl_driver.specs.Names.{behind, closes, constant_of, is_field_name, is_name, is_name_byte, is_word, number_word, opens, values_of}
+use Rattle.cpl_driver.specs.Names.{closes_table, constant_of, is_field_name, is_word, opens_table, values_of}
 use Rattle.cpl_driver.specs.declared.system.Loop.{Loop}
 use Rattle.cpl_driver.specs.declared.system.System.{System}
 
@@ -27,8 +27,8 @@ unfoldable pub lines_of : List ℕ → List (List (List ℕ))
 lines_of bytes = filter is_some_of (map words_of (slice_split (λ c. c == 10) bytes))
 
 -- the words of the line at this place, counted from 0
-unfoldable pub line : List (List (List ℕ)) → ℕ → List (List ℕ)
-line lines place = slice_index_or lines place []
+unfoldable pub line_at : List (List (List ℕ)) → ℕ → List (List ℕ)
+line_at lines place = slice_index_or lines place []
 
 -- ---- the parts of a file
 
@@ -36,8 +36,8 @@ line lines place = slice_index_or lines place []
 abbrev pub component_of : List (List ℕ) → Option (List ℕ)
 component_of words = do
   values ← values_of (codes "EARTH_component_list") words
-  name ← only values
-  _ ← when (is_name name)
+  name ← single values
+  _ ← some_if (is_name name)
   Some name
 
 -- whether the values of a grid are `1 1`
@@ -59,12 +59,12 @@ assignment_of (field ∷ equals ∷ rule) = if bytes_eq equals (codes "=") && is
 -- the table of the variables: one row, `FIELD = NUMBER`
 unfoldable pub variable_of : List ℕ → List (List (List ℕ)) → Option (List ℕ × ℤ)
 variable_of component lines = do
-  _ ← when (opens (component ++ codes "_vars") (line lines 2))
-  row ← assignment_of (line lines 3)
-  _ ← when (is_field_name row.0)
-  word ← only row.1
+  _ ← some_if (opens_table (component ++ codes "_vars") (line_at lines 2))
+  row ← assignment_of (line_at lines 3)
+  _ ← some_if (is_field_name row.0)
+  word ← single row.1
   start ← constant_of word
-  _ ← when (closes (line lines 4))
+  _ ← some_if (closes_table (line_at lines 4))
   Some (row.0, start)
 
 -- a byte of a name, a point, a blank or `+`
@@ -84,19 +84,19 @@ is_field_read read = is_field read.name
 -- have no other form, and are as deep as they have atoms, up to 32.
 unfoldable pub sum_of : List ℕ → List ℕ → Option Parsed
 sum_of field text = do
-  _ ← when (list_all is_sum_byte text && nat_lt (length text) 4294967296)
+  _ ← some_if (list_all is_sum_byte text && nat_lt (length text) 4294967296)
   rule ← result_ok (parsed_of (field ∷ []) [] text)
-  _ ← when (list_all is_field_read rule.reads)
+  _ ← some_if (list_all is_field_read rule.reads)
   Some rule
 
 -- the table of the phase: one row, `FIELD = FORMULA`; the words of a rule are joined by single blanks
 unfoldable pub rule_of : List ℕ → List ℕ → List (List (List ℕ)) → Option Parsed
 rule_of component field lines = do
-  _ ← when (opens (component ++ codes "_phase_run") (line lines 5))
-  row ← assignment_of (line lines 6)
-  _ ← when (bytes_eq row.0 field)
+  _ ← some_if (opens_table (component ++ codes "_phase_run") (line_at lines 5))
+  row ← assignment_of (line_at lines 6)
+  _ ← some_if (bytes_eq row.0 field)
   rule ← sum_of field (join_with_byte 32 row.1)
-  _ ← when (closes (line lines 7))
+  _ ← some_if (closes_table (line_at lines 7))
   Some rule
 
 -- a step divides its loop's duration into fewer than 2^24 iterations
@@ -108,20 +108,20 @@ is_loop step duration =
 -- the loop that a row `@STEP:DURATION` opens
 unfoldable pub loop_in : List (List ℕ) → Option Loop
 loop_in words = do
-  word ← only words
-  numbers ← behind (codes "@") word
+  word ← single words
+  numbers ← rest_behind (codes "@") word
   halves ← cut_at 58 numbers
   step ← number_word halves.0
   duration ← number_word halves.1
-  _ ← when (is_loop step duration)
+  _ ← some_if (is_loop step duration)
   Some (record { step = step; duration = duration })
 
 -- the run sequence: one loop around a run of the component
 unfoldable pub loop_of : List ℕ → List (List (List ℕ)) → Option Loop
 loop_of component lines = do
-  _ ← when (opens (codes "runSeq") (line lines 8))
-  loop ← loop_in (line lines 9)
-  _ ← when (is_word component (line lines 10) && is_word (codes "@") (line lines 11) && closes (line lines 12))
+  _ ← some_if (opens_table (codes "runSeq") (line_at lines 8))
+  loop ← loop_in (line_at lines 9)
+  _ ← some_if (is_word component (line_at lines 10) && is_word (codes "@") (line_at lines 11) && closes_table (line_at lines 12))
   Some loop
 
 -- ---- the whole file
@@ -129,9 +129,9 @@ loop_of component lines = do
 -- the system that thirteen lines describe
 unfoldable pub system_in : List (List (List ℕ)) → Option System
 system_in lines = do
-  _ ← when (length lines == 13)
-  component ← component_of (line lines 0)
-  _ ← when (is_one_cell component (line lines 1))
+  _ ← some_if (length lines == 13)
+  component ← component_of (line_at lines 0)
+  _ ← some_if (is_one_cell component (line_at lines 1))
   variable ← variable_of component lines
   rule ← rule_of component variable.0 lines
   loop ← loop_of component lines
@@ -140,5 +140,5 @@ system_in lines = do
 -- the system that the bytes of a file describe, or none where they are of another form
 unfoldable pub system_of : List ℕ → Option System
 system_of bytes = do
-  _ ← when (list_all is_plain bytes)
+  _ ← some_if (list_all is_plain bytes)
   system_in (lines_of bytes)

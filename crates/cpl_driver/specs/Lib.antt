@@ -2,10 +2,10 @@ pub mod Answers
 pub mod Calls
 pub mod Causes
 pub mod Endings
+pub mod Examples
 pub mod Files
 pub mod Names
 pub mod Reads
 pub mod Replies
-pub mod Rows
 pub mod Runs
 pub mod Unreads

@@ -1,45 +1,31 @@
--- Names, number words and labels: what the lines of a resource file are made of.
-use Rattle.std.specs.Prelude.{ℕ, ℤ, Bool, true, false, not, ◌&&◌, ◌||◌, ◌==◌, if◌then◌else◌, nat_le, List, [], ◌∷◌, ◌++◌, length, map, slice_index, codes, Option, Some, None}
-use Rattle.std.specs.Borrow.{Bor}
-use Rattle.std.specs.List.{list_all, list_any}
+-- Names and labels: what the lines of a resource file are made of.
+use Rattle.std.specs.Prelude.{ℕ, ℤ, Bool, true, false, not, ◌&&◌, ◌==◌, if◌then◌else◌, List, [], ◌∷◌, ◌++◌, slice_index, codes, Option, Some, None}
+use Rattle.std.specs.List.{list_any}
 use Rattle.std.specs.Result.{result_ok}
 use Rattle.std.specs.Str.{bytes_eq}
-use Rattle.cpl_base.specs.Numerals.{is_digit, are_digits, number, value_of}
-pub use Rattle.cpl_formula.specs.Tokens.{behind, is_letter, is_name_byte}
-
--- a letter, then letters, digits and `_`, of 32 bytes at most
-abbrev pub is_name : List ℕ → Bool
-is_name [] = false
-is_name (c ∷ cs) = is_letter c && list_all is_name_byte cs && nat_le (length cs) 31
+use Rattle.cpl_base.specs.Numerals.{value_of}
+use Rattle.cpl_base.specs.Words.{is_name, rest_behind}
 
 -- whether a text begins so
-abbrev pub begins : List ℕ → List ℕ → Bool
-begins [] text = true
-begins (c ∷ cs) [] = false
-begins (c ∷ cs) (d ∷ ds) = c == d && begins cs ds
+abbrev pub begins_with : List ℕ → List ℕ → Bool
+begins_with [] text = true
+begins_with (c ∷ cs) [] = false
+begins_with (c ∷ cs) (d ∷ ds) = c == d && begins_with cs ds
 
 -- the names that formulas use for something else
-abbrev pub reserved : List (List ℕ)
-reserved =
+abbrev pub reserved_names : List (List ℕ)
+reserved_names =
     codes "i" ∷ codes "j" ∷ codes "s" ∷ codes "nx" ∷ codes "ny" ∷ codes "year" ∷ codes "month" ∷ codes "day"
     ∷ codes "hour" ∷ codes "minute" ∷ codes "second" ∷ codes "days" ∷ codes "daysec" ∷ codes "dt" ∷ codes "min"
     ∷ codes "max" ∷ codes "abs" ∷ codes "sel" ∷ codes "call" ∷ []
 
 -- a name that isn't reserved and doesn't begin with `ring_`
 abbrev pub is_field_name : List ℕ → Bool
-is_field_name word = is_name word && not (list_any (λ name. bytes_eq name word) reserved) && not (begins (codes "ring_") word)
-
--- the number of one to eighteen decimal digits
-abbrev pub number_word : List ℕ → Option ℕ
-number_word word = if are_digits word && nat_le (length word) 18 then Some (number word) else None
+is_field_name word = is_name word && not (list_any (λ name. bytes_eq name word) reserved_names) && not (begins_with (codes "ring_") word)
 
 -- a number, which has no minus
 abbrev pub constant_of : List ℕ → Option ℤ
 constant_of word = if slice_index word 0 == 45 then None else result_ok (value_of word)
-
--- the texts that references point to
-abbrev pub texts : List (Bor (List ℕ)) → List (List ℕ)
-texts words = map (λ word. word.now) words
 
 -- whether a line is this one word
 abbrev pub is_word : List ℕ → List (List ℕ) → Bool
@@ -60,12 +46,12 @@ values_behind (Some first) words = Some (with_first first words)
 -- The values of a line that is the value item of this label: `LABEL: VALUE ..` or `LABEL:VALUE ..`.
 abbrev pub values_of : List ℕ → List (List ℕ) → Option (List (List ℕ))
 values_of label [] = None
-values_of label (word ∷ words) = values_behind (behind (label ++ codes ":") word) words
+values_of label (word ∷ words) = values_behind (rest_behind (label ++ codes ":") word) words
 
 -- whether a line opens the table of this label: `LABEL::`
-abbrev pub opens : List ℕ → List (List ℕ) → Bool
-opens label line = is_word (label ++ codes "::") line
+abbrev pub opens_table : List ℕ → List (List ℕ) → Bool
+opens_table label line = is_word (label ++ codes "::") line
 
 -- whether a line closes a table
-abbrev pub closes : List (List ℕ) → Bool
-closes line = is_word (codes "::") line
+abbrev pub closes_table : List (List ℕ) → Bool
+closes_table line = is_word (codes "::") line

@@ -5,16 +5,16 @@ use Rattle.std.specs.declared.alloc.Global.{Global}
 use Rattle.std.specs.declared.vec.Vec.{Vec}
 use Rattle.cpl_base.specs.Numbers.{IsValue}
 use Rattle.cpl_formula.specs.Tree.{is_over}
-use Rattle.cpl_driver.specs.Names.{texts}
+use Rattle.cpl_base.specs.Words.{texts}
 use Rattle.cpl_driver.specs.declared.system.System.{System}
 use Rattle.cpl_driver.specs.declared.unread.Unread.{Unread}
 use Rattle.cpl_driver.specs.declared.unread.Unread.TheVariants.{Memory, NotYetBuilt}
 
 -- What a step of reading answered, seen by view, is what the definition gives, unless memory ran out.
-abbrev pub Gives : {X Y : Type 0} → (X → Y) → Result X Unread → Option Y → Type 0
-Gives view (Ok x) read = read ≡ Some (view x)
-Gives view (Err NotYetBuilt) read = read ≡ None
-Gives view (Err Memory) read = Unit {0}
+abbrev pub Reads : {X Y : Type 0} → (X → Y) → Result X Unread → Option Y → Type 0
+Reads view (Ok x) read = read ≡ Some (view x)
+Reads view (Err NotYetBuilt) read = read ≡ None
+Reads view (Err Memory) read = Unit {0}
 
 -- the words of lines
 abbrev pub line_texts : List (Vec (Bor (List ℕ)) Global) → List (List (List ℕ))

@@ -3,5 +3,5 @@ use Rattle.cpl_driver.specs.Answers as answers
 use Rattle.cpl_driver.specs.declared.couple.Reply.{Reply}
 
 -- the reply that the code keeps
-abbrev pub given : Reply → answers.Reply
-given reply = record { status = reply.status; text = reply.text.items }
+abbrev pub reply_of : Reply → answers.Reply
+reply_of reply = record { status = reply.status; text = reply.text.items }

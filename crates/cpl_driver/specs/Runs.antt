@@ -31,24 +31,24 @@ abbrev pub first_world : World
 first_world = record { clock = 0; runs = 0; cells = pos 0 ∷ [] }
 
 -- what a read of the rule finds at a cell, where the variable has this value: there is no other field
-abbrev pub found : ℤ → Read → ℤ
-found value read = value
+abbrev pub read_value : ℤ → Read → ℤ
+read_value value read = value
 
 -- the value of the phase's rule at a cell
-abbrev pub ruled : System → ℤ → ℤ
-ruled system value = value_of (map (found value) system.rule.reads) system.rule.tree
+abbrev pub rule_value : System → ℤ → ℤ
+rule_value system value = value_of (map (read_value value) system.rule.reads) system.rule.tree
 
 -- What an operation makes of the world. A run reads the world as it was; after it the clock has gone
 -- on by the step.
 abbrev pub apply : System → World → Operation → World
 apply system world initialise = record world { cells = map (λ _. system.start) world.cells }
 apply system world (run_at time) =
-    record { clock = time + system.sequence.step; runs = world.runs + 1; cells = map (ruled system) world.cells }
+    record { clock = time + system.sequence.step; runs = world.runs + 1; cells = map (rule_value system) world.cells }
 
 -- the world after some operations
-abbrev pub after : System → List Operation → World
-after system done = fold (apply system) first_world done
+abbrev pub world_after : System → List Operation → World
+world_after system done = fold (apply system) first_world done
 
 -- the world after all operations
 unfoldable pub serial : System → World
-serial system = after system (operations system)
+serial system = world_after system (operations system)

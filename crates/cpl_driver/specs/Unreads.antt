@@ -1,6 +1,6 @@
 -- What a fault of a formula means for the file that has it.
-use Rattle.cpl_formula.specs.declared.formula.FormulaFault.{FormulaFault}
-use Rattle.cpl_formula.specs.declared.formula.FormulaFault.TheVariants as formula
+use Rattle.cpl_formula.specs.declared.fault.FormulaFault.{FormulaFault}
+use Rattle.cpl_formula.specs.declared.fault.FormulaFault.TheVariants as formula
 use Rattle.cpl_driver.specs.declared.unread.Unread.{Unread}
 use Rattle.cpl_driver.specs.declared.unread.Unread.TheVariants.{Memory, NotYetBuilt}
 

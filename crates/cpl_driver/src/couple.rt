@@ -1,11 +1,11 @@
 //! The top call: the words of a command to a reply, and the reply to the streams.
 
 ghost use Rattle.std.specs.Prelude.{◌≡◌, ◌≤◌, IfOk, map, option_map, string_bytes};
-ghost use Rattle.cpl_driver.specs.Answers.{file_to_run as file_word, is_file_word, reply_for};
+ghost use Rattle.cpl_driver.specs.Answers.{file_to_run, is_file_word, reply_for};
 ghost use Rattle.cpl_driver.specs.Calls.{HasCauses, IsDone, IsSerial};
 ghost use Rattle.cpl_driver.specs.Causes.{IsDelivery, IsFileReply, call, stream};
 ghost use Rattle.cpl_driver.specs.Files.{system_of};
-ghost use Rattle.cpl_driver.specs.Replies.{given};
+ghost use Rattle.cpl_driver.specs.Replies.{reply_of};
 
 use crate::reading::read_system;
 use crate::report::{NOT_YET_BUILT, USAGE, read_fault, report, too_long};
@@ -89,7 +89,7 @@ fn is_file(word: &str) -> bool
 
 /// The file to run, where the words are `run FILE`.
 fn file_to_run(words: &[String]) -> Option<&str>
-    ensures { option_map (λ file. file.now) result ≡ file_word (map string_bytes words.now) }
+    ensures { option_map (λ file. file.now) result ≡ file_to_run (map string_bytes words.now) }
 {
     match words {
         [command, file] if command.as_str() == "run" && is_file(file.as_str()) => Some(
@@ -101,7 +101,7 @@ fn file_to_run(words: &[String]) -> Option<&str>
 
 /// The reply to the file of this name.
 fn reply_to<H: Shelf>(alloc: Global, name: &str, shelf: &mut H) -> Result<Reply, Memory>
-    ensures reply { IfOk result (λ reply. IsFileReply name.now (H.files shelf.old) (H.faults shelf.old) (H.faults shelf.new) (given reply)) }
+    ensures reply { IfOk result (λ reply. IsFileReply name.now (H.files shelf.old) (H.faults shelf.old) (H.faults shelf.new) (reply_of reply)) }
     ensures counts { H.faults shelf.old ≤ H.faults shelf.new }
 {
     match shelf.load(alloc, name, MOST_BYTES) {
@@ -120,7 +120,7 @@ fn reply_to<H: Shelf>(alloc: Global, name: &str, shelf: &mut H) -> Result<Reply,
 
 /// The reply to a file with these bytes: the report of the system that they describe, or a refusal.
 fn reply_to_bytes(alloc: Global, bytes: &[u8]) -> Result<Reply, Memory>
-    ensures { IfOk result (λ reply. given reply ≡ reply_for (system_of bytes.now)) }
+    ensures { IfOk result (λ reply. reply_of reply ≡ reply_for (system_of bytes.now)) }
 {
     match read_system(alloc, bytes) {
         Ok(system) => {

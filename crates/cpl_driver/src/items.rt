@@ -1,13 +1,13 @@
 //! The lines of a resource file and what single lines say.
 
 ghost use Rattle.std.specs.Prelude.{◌≡◌, ◌<◌, ◌++◌, codes, length, IfOk, option_map};
-ghost use Rattle.cpl_base.specs.Chain.{only as only_of};
-ghost use Rattle.cpl_driver.specs.Files.{assignment_of, line as line_of, lines_of};
-ghost use Rattle.cpl_driver.specs.Names.{behind as behind_of, closes as closes_line, is_word as is_word_of, opens as opens_line, texts, values_of};
+ghost use Rattle.cpl_base.specs.Chain.{single};
+ghost use Rattle.cpl_driver.specs.Files.{assignment_of, line_at, lines_of};
+ghost use Rattle.cpl_base.specs.Words.{rest_behind, texts};
+ghost use Rattle.cpl_driver.specs.Names.{closes_table, is_word, opens_table, values_of};
 ghost use Rattle.cpl_driver.specs.Reads.{line_texts};
 
-use crate::names::behind;
-use cpl_base::{Memory, words};
+use cpl_base::{Memory, rest_behind, words};
 use std::alloc::Global;
 
 /// The lines that have words, each as its words.
@@ -25,17 +25,17 @@ pub fn lines(alloc: Global, bytes: &[u8]) -> Result<Vec<Vec<&[u8]>>, Memory>
 }
 
 /// The words of the line at a place, counted from 0.
-#[tactic(auto, unfolding(crate::specs::Files::line))]
-pub fn line<'a>(lines: &'a [Vec<&'a [u8]>], place: usize) -> &'a [&'a [u8]]
+#[tactic(auto, unfolding(crate::specs::Files::line_at))]
+pub fn line_at<'a>(lines: &'a [Vec<&'a [u8]>], place: usize) -> &'a [&'a [u8]]
     requires { place < length lines.now }
-    ensures { texts result.now ≡ line_of (line_texts lines.entry.now) place }
+    ensures { texts result.now ≡ line_at (line_texts lines.entry.now) place }
 {
     lines[place].as_slice()
 }
 
 /// The one word of a line that has just one.
-pub fn only<'a>(words: &[&'a [u8]]) -> Option<&'a [u8]>
-    ensures { option_map (λ word. word.now) result ≡ only_of (texts words.now) }
+pub fn single<'a>(words: &[&'a [u8]]) -> Option<&'a [u8]>
+    ensures { option_map (λ word. word.now) result ≡ single (texts words.now) }
 {
     match words {
         [word] => Some(word),
@@ -45,7 +45,7 @@ pub fn only<'a>(words: &[&'a [u8]]) -> Option<&'a [u8]>
 
 /// Whether a line is this one word.
 pub fn is_word(word: &[u8], line: &[&[u8]]) -> bool
-    ensures { result ≡ is_word_of word.now (texts line.now) }
+    ensures { result ≡ is_word word.now (texts line.now) }
 {
     match line {
         [only] => *only == word,
@@ -54,11 +54,11 @@ pub fn is_word(word: &[u8], line: &[&[u8]]) -> bool
 }
 
 /// What stands in a word behind a label and its colon, if it begins so.
-#[tactic(auto, using(crate::proofs::Beginnings::behind_both))]
+#[tactic(auto, using(crate::proofs::NamesFacts::rest_behind_both))]
 fn behind_label<'a>(label: &[u8], word: &'a [u8]) -> Option<&'a [u8]>
-    ensures { option_map (λ first. first.now) result ≡ behind_of (label.now ++ codes ":") word.entry.now }
+    ensures { option_map (λ first. first.now) result ≡ rest_behind (label.now ++ codes ":") word.entry.now }
 {
-    behind(b":", behind(label, word)?)
+    rest_behind(b":", rest_behind(label, word)?)
 }
 
 /// The values of a line that is the value item of this label; the first may stand right behind the colon.
@@ -105,16 +105,16 @@ pub fn labelled(alloc: Global, name: &[u8], rest: &[u8]) -> Result<Vec<u8>, Memo
 }
 
 /// Whether a line opens the table of this label.
-pub fn opens(alloc: Global, label: &[u8], line: &[&[u8]]) -> Result<bool, Memory>
-    ensures { IfOk result (λ opens. opens ≡ opens_line label.now (texts line.now)) }
+pub fn opens_table(alloc: Global, label: &[u8], line: &[&[u8]]) -> Result<bool, Memory>
+    ensures { IfOk result (λ opens. opens ≡ opens_table label.now (texts line.now)) }
 {
     let opening = labelled(alloc, label, b"::")?;
     Ok(is_word(opening.as_slice(), line))
 }
 
 /// Whether a line closes a table.
-pub fn closes(line: &[&[u8]]) -> bool
-    ensures { result ≡ closes_line (texts line.now) }
+pub fn closes_table(line: &[&[u8]]) -> bool
+    ensures { result ≡ closes_table (texts line.now) }
 {
     is_word(b"::", line)
 }

@@ -5,16 +5,16 @@
 #![tactic(auto)]
 
 mod couple;
+mod examples;
 mod items;
 mod names;
 mod reading;
 mod report;
-mod rows;
 mod running;
 mod status;
 mod system;
 mod unread;
 
 pub use couple::couple_solo;
-pub use rows::serial_rows;
+pub use examples::serial_examples;
 pub use status::Status;

@@ -1,7 +1,7 @@
 //! The texts that a command writes.
 
 ghost use Rattle.std.specs.Prelude.{◌≡◌, ◌++◌, IfOk, OnOk, [], ◌∷◌};
-ghost use Rattle.cpl_base.specs.Numerals.{written};
+ghost use Rattle.cpl_base.specs.Numerals.{value_text};
 ghost use Rattle.cpl_driver.specs.Endings.{ending_text};
 ghost use Rattle.cpl_driver.specs.Answers.{component_line, operations_line, read_fault_line, too_long_line, variable_line};
 
@@ -46,7 +46,7 @@ fn write_operations(out: &mut Vec<u8>, count: u64) -> Result<(), Memory>
     ensures { OnOk result (out.new.items ≡ out.old.items ++ operations_line count) }
 {
     out.extend_from_slice(b"operations ")?;
-    write_number(out, count)?;
+    write_number(out, u128::from(count))?;
     out.push(b'\n')?;
     Ok(())
 }
@@ -58,16 +58,16 @@ fn write_component(out: &mut Vec<u8>, name: &[u8], runs: u64, clock: u64) -> Res
     out.extend_from_slice(b"component ")?;
     out.extend_from_slice(name)?;
     out.extend_from_slice(b" runs ")?;
-    write_number(out, runs)?;
+    write_number(out, u128::from(runs))?;
     out.extend_from_slice(b" clock ")?;
-    write_number(out, clock)?;
+    write_number(out, u128::from(clock))?;
     out.push(b'\n')?;
     Ok(())
 }
 
 /// Appends a label and a value.
 fn write_labelled(out: &mut Vec<u8>, label: &[u8], value: i128) -> Result<(), Memory>
-    ensures { OnOk result (out.new.items ≡ out.old.items ++ (label.now ++ written value)) }
+    ensures { OnOk result (out.new.items ≡ out.old.items ++ (label.now ++ value_text value)) }
 {
     out.extend_from_slice(label)?;
     write_val(out, value)

@@ -1,7 +1,7 @@
 //! Why the bytes of a file weren't read as a system.
 
 ghost use Rattle.std.specs.Prelude.{◌≡◌};
-ghost use Rattle.cpl_driver.specs.declared.unread.Unread.TheVariants.{Memory as OutOfMemory};
+ghost use Rattle.cpl_driver.specs.declared.unread.Unread.{Unread};
 ghost use Rattle.cpl_driver.specs.Unreads.{unread_of};
 
 use cpl_base::Memory;
@@ -18,7 +18,7 @@ pub enum Unread {
 }
 
 impl From<Memory> for Unread {
-    ghost from_gives = { λ _ unread. unread ≡ OutOfMemory };
+    ghost from_gives = { λ _ unread. unread ≡ Unread.Memory };
 
     fn from(_memory: Memory) -> Unread {
         Unread::Memory
@@ -37,7 +37,7 @@ impl From<FormulaFault> for Unread {
 }
 
 impl From<AllocError> for Unread {
-    ghost from_gives = { λ _ unread. unread ≡ OutOfMemory };
+    ghost from_gives = { λ _ unread. unread ≡ Unread.Memory };
 
     fn from(_error: AllocError) -> Unread {
         Unread::Memory
@@ -45,7 +45,7 @@ impl From<AllocError> for Unread {
 }
 
 impl<T: Drop> From<AllocFailed<T>> for Unread {
-    ghost from_gives = { λ _ unread. unread ≡ OutOfMemory };
+    ghost from_gives = { λ _ unread. unread ≡ Unread.Memory };
 
     fn from(_failed: AllocFailed<T>) -> Unread {
         Unread::Memory

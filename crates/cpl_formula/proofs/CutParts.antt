@@ -3,7 +3,7 @@ use Rattle.std.proofs.Common.{◌≡◌, ℕ, zero, suc, ◌<◌, ◌≤◌, max
 use Rattle.std.proofs.lemmas.Bool.{lt-leb}
 use Rattle.cpl_formula.specs.Grammar.{Expr, Term, Factor, Atom, tree_of_expr, tree_of_term, tree_of_factor, tree_of_atom, depth_of_expr, depth_of_term, depth_of_factor, depth_of_atom}
 use Rattle.cpl_formula.proofs.Standing as standing
-use Rattle.cpl_formula.specs.Steps.{around, joined, chosen, negated, one_more}
+use Rattle.cpl_formula.specs.Steps.{around, joined, joined_three, negated, one_more}
 use Rattle.cpl_formula.specs.declared.formula.Formula.{Formula, roll-Formula}
 use Rattle.cpl_formula.specs.declared.formula.Formula.TheOpen as tree
 use Rattle.cpl_formula.specs.declared.formula.Read.{Read}
@@ -48,24 +48,24 @@ pub joined_cut : (make : Formula → Formula → Formula) (s t : Formula) (m n :
 joined_cut make s t m n = joined_by make s t m n (leb m 32) (leb n 32) refl refl
 
 -- a level around three trees
-chosen_by : (r s t : Formula) (l m n : ℕ) (a b c : Bool) → leb l 32 ≡ a → leb m 32 ≡ b → leb n 32 ≡ c
-    → chosen (cut r l) (cut s m) (cut t n) ≡ cut (roll-Formula (tree.Select r s t)) (suc (max l (max m n)))
-chosen_by r s t l m n true true true first second third = rw (first, second, third, add-one (max l (max m n))) refl
-chosen_by r s t l m n false b c first second third =
+joined_three_by : (make : Formula → Formula → Formula → Formula) (r s t : Formula) (l m n : ℕ) (a b c : Bool) → leb l 32 ≡ a → leb m 32 ≡ b → leb n 32 ≡ c
+    → joined_three make (cut r l) (cut s m) (cut t n) ≡ cut (make r s t) (suc (max l (max m n)))
+joined_three_by make r s t l m n true true true first second third = rw (first, second, third, add-one (max l (max m n))) refl
+joined_three_by make r s t l m n false b c first second third =
     let over : 32 < l = leb-false l 32 first in
     let more : leb (suc (max l (max m n))) 32 ≡ false = lt-leb (suc (max l (max m n))) 32 (omega arith) in
     rw (first, more) refl
-chosen_by r s t l m n true false c first second third =
+joined_three_by make r s t l m n true false c first second third =
     let over : 32 < m = leb-false m 32 second in
     let more : leb (suc (max l (max m n))) 32 ≡ false = lt-leb (suc (max l (max m n))) 32 (omega arith) in
     rw (first, second, more) refl
-chosen_by r s t l m n true true false first second third =
+joined_three_by make r s t l m n true true false first second third =
     let over : 32 < n = leb-false n 32 third in
     let more : leb (suc (max l (max m n))) 32 ≡ false = lt-leb (suc (max l (max m n))) 32 (omega arith) in
     rw (first, second, third, more) refl
 
-pub chosen_cut : (r s t : Formula) (l m n : ℕ) → chosen (cut r l) (cut s m) (cut t n) ≡ cut (roll-Formula (tree.Select r s t)) (suc (max l (max m n)))
-chosen_cut r s t l m n = chosen_by r s t l m n (leb l 32) (leb m 32) (leb n 32) refl refl refl
+pub joined_three_cut : (make : Formula → Formula → Formula → Formula) (r s t : Formula) (l m n : ℕ) → joined_three make (cut r l) (cut s m) (cut t n) ≡ cut (make r s t) (suc (max l (max m n)))
+joined_three_cut make r s t l m n = joined_three_by make r s t l m n (leb l 32) (leb m 32) (leb n 32) refl refl refl
 
 -- ---- minus signs
 

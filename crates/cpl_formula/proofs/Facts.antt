@@ -1,9 +1,9 @@
 -- What a derivation spells is what reading goes over, and no derivation is spelled like another.
 use Rattle.std.proofs.Common.{◌≡◌, ℤ, pos, List, [], ◌∷◌, ◌++◌, Option, Some, None, refl, ap, sym, ◌∙◌}
 use Rattle.std.proofs.lemmas.List.{append-nil}
-use Rattle.cpl_formula.specs.Formulas.{Begins, TakesAtoms}
+use Rattle.cpl_formula.specs.Formulas.{IsViable, TakesAtoms}
 use Rattle.cpl_formula.specs.Grammar.Atom.{number}
-use Rattle.cpl_formula.specs.Grammar.{Expr, spelled_expr, spelled_atom, reads_of_expr, reads_of_atom}
+use Rattle.cpl_formula.specs.Grammar.{Expr, yield_of_expr, yield_of_atom, reads_of_expr, reads_of_atom}
 use Rattle.cpl_formula.specs.declared.formula.Read.{Read}
 use Rattle.cpl_formula.specs.declared.tokens.Token.{Token}
 use Rattle.cpl_formula.specs.declared.tokens.Token.TheVariants as token
@@ -16,7 +16,7 @@ use Rattle.cpl_formula.proofs.Standing.{Standing, Waits, Opened, Place, standing
 -- where reading stands behind the tokens of a derivation
 pub record Reached (e : Expr) : Type 0 where
   pub stands : Standing
-  pub goes : go beginning (spelled_expr e) ≡ Some stands
+  pub goes : go beginning (yield_of_expr e) ≡ Some stands
   pub is_whole : whole (settled stands) ≡ Some e
   pub reads : (settled stands).done ≡ reads_of_expr e
 
@@ -28,24 +28,24 @@ unsettled (Some n) s is = (n, refl, cc)
 pub reached : (e : Expr) → Reached e
 reached e =
     let behind_all : Standing = standing [] (expr_waits e) (behind (expr_last e)) (reads_of_expr e) in
-    let runs : run beginning (spelled_expr e) ≡ Some behind_all = rw append-nil at (run_expr e [] [] [] tt) in
-    let stands = unsettled (go beginning (spelled_expr e)) behind_all runs in
+    let runs : run beginning (yield_of_expr e) ≡ Some behind_all = rw append-nil at (run_expr e [] [] [] tt) in
+    let stands = unsettled (go beginning (yield_of_expr e)) behind_all runs in
     record { stands = stands.0; goes = stands.1; is_whole = ap whole stands.2 ∙ ap Some (expr_again e); reads = ap (λ (s : Standing). s.done) stands.2 }
 
 -- what is read whole was spelled
-pub spelled_whole : (ts : List Token) (s : Standing) (e : Expr) → go beginning ts ≡ Some s → whole (settled s) ≡ Some e → ts ≡ spelled_expr e
-spelled_whole ts s e goes is_whole = sym (go_spells ts beginning s goes) ∙ whole_spells s e is_whole
+pub yield_of_whole : (ts : List Token) (s : Standing) (e : Expr) → go beginning ts ≡ Some s → whole (settled s) ≡ Some e → ts ≡ yield_of_expr e
+yield_of_whole ts s e goes is_whole = sym (go_spells ts beginning s goes) ∙ whole_spells s e is_whole
 
 -- tokens begin a formula exactly where reading goes over them
-pub begins_go : (ts : List Token) → Begins ts → (s : Standing) × (go beginning ts ≡ Some s)
+pub begins_go : (ts : List Token) → IsViable ts → (s : Standing) × (go beginning ts ≡ Some s)
 begins_go ts begins =
     let all = reached begins.1 in
     go_first ts begins.0 beginning all.stands (ap (go beginning) begins.2 ∙ all.goes)
 
-pub go_begins : (ts : List Token) (s : Standing) → go beginning ts ≡ Some s → Begins ts
+pub go_begins : (ts : List Token) (s : Standing) → go beginning ts ≡ Some s → IsViable ts
 go_begins ts s goes =
     let rest = ends s in
-    (rest.more, rest.expr, spelled_whole (ts ++ rest.more) rest.end rest.expr (go_over ts rest.more beginning s goes ∙ rest.goes) rest.is_whole)
+    (rest.more, rest.expr, yield_of_whole (ts ++ rest.more) rest.end rest.expr (go_over ts rest.more beginning s goes ∙ rest.goes) rest.is_whole)
 
 -- going over tokens, and then over one more
 pub go_snoc : (s : Standing) (ts : List Token) (t : Token) (next : Standing) → go s ts ≡ Some next → go s (ts ++ t ∷ []) ≡ advance next t
@@ -55,10 +55,10 @@ go_snoc s ts t next goes = go_over ts (t ∷ []) s next goes ∙ go_one next t
 pub wanted_takes : (ts : List Token) (s : Standing) → go beginning ts ≡ Some s → s.place ≡ wanted → TakesAtoms ts
 wanted_takes ts s goes is_wanted a =
     let same : s ≡ standing s.brackets s.waits wanted s.done = ap (λ place. standing s.brackets s.waits place s.done) is_wanted in
-    let runs : run s (spelled_atom a ++ []) ≡ Some (standing s.brackets s.waits (behind a) (s.done ++ reads_of_atom a)) =
-    ap (λ from. run from (spelled_atom a ++ [])) same ∙ run_atom a s.brackets s.waits s.done [] tt in
-    let behind_atom = unsettled (go s (spelled_atom a)) (standing s.brackets s.waits (behind a) (s.done ++ reads_of_atom a)) (rw append-nil at runs) in
-    go_begins (ts ++ spelled_atom a) behind_atom.0 (go_over ts (spelled_atom a) beginning s goes ∙ behind_atom.1)
+    let runs : run s (yield_of_atom a ++ []) ≡ Some (standing s.brackets s.waits (behind a) (s.done ++ reads_of_atom a)) =
+    ap (λ from. run from (yield_of_atom a ++ [])) same ∙ run_atom a s.brackets s.waits s.done [] tt in
+    let behind_atom = unsettled (go s (yield_of_atom a)) (standing s.brackets s.waits (behind a) (s.done ++ reads_of_atom a)) (rw append-nil at runs) in
+    go_begins (ts ++ yield_of_atom a) behind_atom.0 (go_over ts (yield_of_atom a) beginning s goes ∙ behind_atom.1)
 
 only_wanted : (brackets : List (Waits × Opened)) (w : Waits) (done : List Read) (place : Place) (z : ℤ) (next : Standing) → advance_by brackets w done place (token.Number z) ≡ Some next → place ≡ wanted
 only_wanted brackets w done wanted z next goes = refl
@@ -70,7 +70,7 @@ takes_wanted ts s goes takes =
     only_wanted s.brackets s.waits s.done s.place (pos 0) over.0 (sym (go_snoc beginning ts (token.Number (pos 0)) s goes) ∙ over.1)
 
 -- no two derivations are spelled alike
-pub unambiguous : (d e : Expr) → spelled_expr d ≡ spelled_expr e → d ≡ e
+pub unambiguous : (d e : Expr) → yield_of_expr d ≡ yield_of_expr e → d ≡ e
 unambiguous d e same =
     let of_d = reached d in
     let of_e = reached e in

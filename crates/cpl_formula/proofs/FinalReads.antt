@@ -1,38 +1,13 @@
 -- Noted reads: each has its number once it is noted, whatever is noted behind it.
-use Rattle.std.proofs.Common.{◌≡◌, ℕ, ◌+◌, Bool, true, false, cond, not, List, [], ◌∷◌, ◌++◌, refl, sym, ap, ◌∙◌, append_assoc, append-nil, eq-eqb, true≢false}
+use Rattle.std.proofs.Common.{◌≡◌, ℕ, ◌+◌, Bool, true, false, cond, not, List, [], ◌∷◌, ◌++◌, refl, sym, ap, ◌∙◌, append_assoc, append-nil, true≢false}
 use Rattle.std.specs.List.{list_any, position_or_len}
-use Rattle.std.proofs.lemmas.Cmp.{int_eq_equiv}
 use Rattle.std.proofs.lemmas.List.Sums.{fold-append}
 use Rattle.cpl_formula.specs.Grammar.{input_of}
-use Rattle.cpl_formula.specs.Reads.{same_name, same_read, noted, distinct}
+use Rattle.cpl_formula.specs.Reads.{same_read, with_read, distinct_reads}
 use Rattle.cpl_formula.specs.declared.formula.Formula.{roll-Formula}
 use Rattle.cpl_formula.specs.declared.formula.Formula.TheOpen as tree
 use Rattle.cpl_formula.specs.declared.formula.Read.{Read}
-use Rattle.cpl_formula.specs.declared.formula.ReadName.{ReadName}
-use Rattle.cpl_formula.specs.declared.formula.ReadName.TheVariants.{Field, I, J, S, Nx, Ny, Year, Month, Day, Hour, Minute, Second, Days, DaySecond, Dt, Ring}
-
--- ---- a read is the same as itself
-
-same_name_self : (n : ReadName) → same_name n n ≡ true
-same_name_self (Field k) = eq-eqb k k refl
-same_name_self (Ring k) = eq-eqb k k refl
-same_name_self I = refl
-same_name_self J = refl
-same_name_self S = refl
-same_name_self Nx = refl
-same_name_self Ny = refl
-same_name_self Year = refl
-same_name_self Month = refl
-same_name_self Day = refl
-same_name_self Hour = refl
-same_name_self Minute = refl
-same_name_self Second = refl
-same_name_self Days = refl
-same_name_self DaySecond = refl
-same_name_self Dt = refl
-
-same_read_self : (r : Read) → same_read r r ≡ true
-same_read_self r = rw (same_name_self r.name, int_eq_equiv.refl r.dx, int_eq_equiv.refl r.dy) refl
+use Rattle.cpl_formula.proofs.ReadsFacts.{same_read-self}
 
 -- ---- the number of a read
 
@@ -64,26 +39,26 @@ pub extends_through : (all mid reads : List Read) → Extends all mid → Extend
 extends_through all mid reads a b =
     record { more = b.more ++ a.more; parted = a.parted ∙ ap (λ (m : List Read). m ++ a.more) b.parted ∙ append_assoc reads b.more a.more }
 
-noted_by : (reads : List Read) (r : Read) (b : Bool) → list_any (same_read r) reads ≡ b → Extends (noted reads r) reads
+noted_by : (reads : List Read) (r : Read) (b : Bool) → list_any (same_read r) reads ≡ b → Extends (with_read reads r) reads
 noted_by reads r true is_there = rw is_there (extends_self reads)
 noted_by reads r false is_there = rw is_there (record { more = r ∷ []; parted = refl })
 
-pub extends_noted : (reads : List Read) (r : Read) → Extends (noted reads r) reads
+pub extends_noted : (reads : List Read) (r : Read) → Extends (with_read reads r) reads
 extends_noted reads r = noted_by reads r (list_any (same_read r) reads) refl
 
 -- the number of a read among the reads so far, and among all
-number_by : (all reads : List Read) (r : Read) (b : Bool) → list_any (same_read r) reads ≡ b → Extends all (noted reads r)
+number_by : (all reads : List Read) (r : Read) (b : Bool) → list_any (same_read r) reads ≡ b → Extends all (with_read reads r)
     → position_or_len (same_read r) reads ≡ position_or_len (same_read r) all
 number_by all reads r true is_there rest =
     let stays : Extends all reads = rw is_there at rest in
     sym (ap (position_or_len (same_read r)) stays.parted ∙ found (same_read r) reads stays.more is_there)
 number_by all reads r false is_there rest =
     let grows : Extends all (reads ++ r ∷ []) = rw is_there at rest in
-    sym (ap (position_or_len (same_read r)) grows.parted ∙ next_up (same_read r) reads r grows.more (same_read_self r))
+    sym (ap (position_or_len (same_read r)) grows.parted ∙ next_up (same_read r) reads r grows.more (same_read-self r))
 
-pub input_same : (all reads : List Read) (r : Read) → Extends all (noted reads r) → input_of reads r ≡ input_of all r
+pub input_same : (all reads : List Read) (r : Read) → Extends all (with_read reads r) → input_of reads r ≡ input_of all r
 input_same all reads r rest = ap (λ n. roll-Formula (tree.Input n)) (number_by all reads r (list_any (same_read r) reads) refl rest)
 
 -- one read more
-pub distinct_snoc : (reads : List Read) (r : Read) → distinct (reads ++ r ∷ []) ≡ noted (distinct reads) r
-distinct_snoc reads r = fold-append noted [] reads (r ∷ [])
+pub distinct_snoc : (reads : List Read) (r : Read) → distinct_reads (reads ++ r ∷ []) ≡ with_read (distinct_reads reads) r
+distinct_snoc reads r = fold-append with_read [] reads (r ∷ [])

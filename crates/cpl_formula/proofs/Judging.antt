@@ -1,13 +1,13 @@
 -- The fault at which the reader stops is the one that the definition judges, and there is one such fault.
 use Rattle.std.proofs.Common.{◌≡◌, ℕ, Bool, true, false, inl, inr, List, [], ◌∷◌, ◌++◌, Option, Some, None, refl, sym, ap, subst, ◌∙◌}
 use Rattle.std.specs.Prelude.{fold}
-use Rattle.cpl_formula.specs.Formulas.{kinds, Begins, TakesAtoms, IsWhere, IsJudged, minus_or, begin_of_offset}
+use Rattle.cpl_formula.specs.Formulas.{kinds, IsViable, TakesAtoms, IsWhere, IsFaultOf, minus_or, begin_of_offset}
 use Rattle.cpl_formula.specs.Grammar.{Expr, Atom, Near, Offset}
 use Rattle.cpl_formula.specs.Grammar.Atom.{field}
-use Rattle.cpl_formula.specs.Steps.{located}
+use Rattle.cpl_formula.specs.Steps.{fault_at}
 use Rattle.cpl_formula.specs.Tokens.{Placed}
-use Rattle.cpl_formula.specs.declared.formula.FormulaFault.{FormulaFault}
-use Rattle.cpl_formula.specs.declared.formula.FormulaFault.TheVariants as faults
+use Rattle.cpl_formula.specs.declared.fault.FormulaFault.{FormulaFault}
+use Rattle.cpl_formula.specs.declared.fault.FormulaFault.TheVariants as faults
 use Rattle.cpl_formula.specs.declared.formula.Read.{Read}
 use Rattle.cpl_formula.specs.declared.tokens.SumSign.TheVariants.{Plus, Less}
 use Rattle.cpl_formula.specs.declared.tokens.Token.{Token}
@@ -40,7 +40,7 @@ after_close_fits brackets w done (Some a) begin last = tt
 
 close_fits : (brackets : List (Waits × Opened)) (done : List Read) (e : Expr) (begin : ℕ → ℕ) (last : ℕ) → FitsNext (standing.close brackets done e) begin last
 close_fits [] done e begin last = tt
-close_fits (b ∷ brackets) done e begin last = after_close_fits brackets b.0 done (standing.closed b.1 e) begin last
+close_fits (b ∷ brackets) done e begin last = after_close_fits brackets b.0 done (standing.closed_atom b.1 e) begin last
 
 after_comma_fits : (brackets : List (Waits × Opened)) (w : Waits) (done : List Read) (o : Option Opened) (begin : ℕ → ℕ) (last : ℕ)
     → FitsNext (standing.after_comma brackets w done o) begin last
@@ -49,7 +49,7 @@ after_comma_fits brackets w done (Some o) begin last = tt
 
 comma_fits : (brackets : List (Waits × Opened)) (done : List Read) (e : Expr) (begin : ℕ → ℕ) (last : ℕ) → FitsNext (standing.comma brackets done e) begin last
 comma_fits [] done e begin last = tt
-comma_fits (b ∷ brackets) done e begin last = after_comma_fits brackets b.0 done (standing.continued b.1 e) begin last
+comma_fits (b ∷ brackets) done e begin last = after_comma_fits brackets b.0 done (standing.next_opened b.1 e) begin last
 
 behind_fits : (brackets : List (Waits × Opened)) (w : Waits) (done : List Read) (a : Atom) (t : Token) (begin : ℕ → ℕ) (last : ℕ)
     → FitsNext (at_behind brackets w done a t) begin last
@@ -117,12 +117,12 @@ fits_over (t ∷ ts) s final begin last fits goes =
 -- ---- which fault
 
 bad_number_judged : (front : List Placed) (at before : ℕ) (s : Standing) (p : Place) → go beginning (kinds front) ≡ Some s → s.place ≡ p
-    → IsWhere (TakesAtoms (kinds front)) (faults.BadNumber at) (faults.Syntax at) (located (kind_of p token.BadNumber) before at)
+    → IsWhere (TakesAtoms (kinds front)) (faults.BadNumber at) (faults.Syntax at) (fault_at (kind_of p token.BadNumber) before at)
 bad_number_judged front at before s wanted goes is = inl (wanted_takes (kinds front) s goes is, refl)
 bad_number_judged front at before s p goes is = inr (λ takes. let stands : s.place ≡ wanted = takes_wanted (kinds front) s goes takes in cc, refl)
 
 unknown_judged : (front : List Placed) (at before : ℕ) (s : Standing) (p : Place) → go beginning (kinds front) ≡ Some s → s.place ≡ p
-    → IsWhere (TakesAtoms (kinds front)) (faults.NameUnknown at) (faults.Syntax at) (located (kind_of p token.Unknown) before at)
+    → IsWhere (TakesAtoms (kinds front)) (faults.NameUnknown at) (faults.Syntax at) (fault_at (kind_of p token.Unknown) before at)
 unknown_judged front at before s wanted goes is = inl (wanted_takes (kinds front) s goes is, refl)
 unknown_judged front at before s p goes is = inr (λ takes. let stands : s.place ≡ wanted = takes_wanted (kinds front) s goes takes in cc, refl)
 
@@ -132,7 +132,7 @@ digit_goes : (front : List Placed) (s : Standing) (p : Place) (o : Option Standi
 digit_goes front s p o goes is next = go_snoc beginning (kinds front) (token.Digit 0) s goes ∙ ap (λ (q : Place). advance_by s.brackets s.waits s.done q (token.Digit 0)) is ∙ next
 
 no_digit : (front : List Placed) (s : Standing) (p : Place) → go beginning (kinds front) ≡ Some s → s.place ≡ p
-    → advance_by s.brackets s.waits s.done p (token.Digit 0) ≡ None → Begins (kinds front ++ token.Digit 0 ∷ []) → ⊥
+    → advance_by s.brackets s.waits s.done p (token.Digit 0) ≡ None → IsViable (kinds front ++ token.Digit 0 ∷ []) → ⊥
 no_digit front s p goes is stops begins =
     let more = begins_go (kinds front ++ token.Digit 0 ∷ []) begins in
     let none : go beginning (kinds front ++ token.Digit 0 ∷ []) ≡ None = digit_goes front s p None goes is stops in
@@ -141,7 +141,7 @@ no_digit front s p goes is stops begins =
 
 digit_judged : (front : List Placed) (at before d : ℕ) (s : Standing) (p : Place) → go beginning (kinds front) ≡ Some s → s.place ≡ p
     → advance_by s.brackets s.waits s.done p (token.Digit d) ≡ None → Fits p (begin_of_offset front) before
-    → IsWhere (Begins (kinds front ++ token.Digit 0 ∷ [])) (faults.FarNeighbour (begin_of_offset front at)) (faults.Syntax at) (located (kind_of p (token.Digit d)) before at)
+    → IsWhere (IsViable (kinds front ++ token.Digit 0 ∷ [])) (faults.FarNeighbour (begin_of_offset front at)) (faults.Syntax at) (fault_at (kind_of p (token.Digit d)) before at)
 digit_judged front at before d s wanted goes is stops fits = absurd (cc)
 digit_judged front at before d s (column k true) goes is stops fits =
     inl (go_begins (kinds front ++ token.Digit 0 ∷ []) _ (digit_goes front s (column k true) _ goes is refl), sym (ap faults.FarNeighbour (fits at)))
@@ -155,7 +155,7 @@ digit_judged front at before d s p goes is stops fits = inr (no_digit front s p 
 
 judged_by : (front : List Placed) (at before : ℕ) (s : Standing) (p : Place) (t : Token) → go beginning (kinds front) ≡ Some s → s.place ≡ p
     → advance_by s.brackets s.waits s.done p t ≡ None → Fits p (begin_of_offset front) before
-    → IsJudged front at t (located (kind_of p t) before at)
+    → IsFaultOf front at t (fault_at (kind_of p t) before at)
 judged_by front at before s p token.BadNumber goes is stops fits = bad_number_judged front at before s p goes is
 judged_by front at before s p token.Unknown goes is stops fits = unknown_judged front at before s p goes is
 judged_by front at before s p (token.Digit d) goes is stops fits = digit_judged front at before d s p goes is stops fits
@@ -166,7 +166,7 @@ judged_by front at before s p t goes is stops fits = refl
 
 -- the fault at which reading stops behind these tokens
 pub judged : (front : List Placed) (at : ℕ) (t : Token) (s : Standing) → go beginning (kinds front) ≡ Some s → advance s t ≡ None
-    → IsJudged front at t (located (kind_of s.place t) (last_place 0 front) at)
+    → IsFaultOf front at t (fault_at (kind_of s.place t) (last_place 0 front) at)
 judged front at t s goes stops =
     judged_by front at (last_place 0 front) s s.place t goes refl stops (fits_over front beginning s (λ (at : ℕ). at) 0 tt goes)
 
@@ -178,8 +178,8 @@ is_where_one P x y f g (inl a) (inr b) = absurd (b.0 a.0)
 is_where_one P x y f g (inr a) (inl b) = absurd (a.0 b.0)
 is_where_one P x y f g (inr a) (inr b) = a.1 ∙ sym b.1
 
-pub judged_one : (front : List Placed) (at : ℕ) (t : Token) (f g : FormulaFault) → IsJudged front at t f → IsJudged front at t g → f ≡ g
+pub judged_one : (front : List Placed) (at : ℕ) (t : Token) (f g : FormulaFault) → IsFaultOf front at t f → IsFaultOf front at t g → f ≡ g
 judged_one front at token.BadNumber f g a b = is_where_one (TakesAtoms (kinds front)) (faults.BadNumber at) (faults.Syntax at) f g a b
 judged_one front at token.Unknown f g a b = is_where_one (TakesAtoms (kinds front)) (faults.NameUnknown at) (faults.Syntax at) f g a b
-judged_one front at (token.Digit d) f g a b = is_where_one (Begins (kinds front ++ token.Digit 0 ∷ [])) (faults.FarNeighbour (begin_of_offset front at)) (faults.Syntax at) f g a b
+judged_one front at (token.Digit d) f g a b = is_where_one (IsViable (kinds front ++ token.Digit 0 ∷ [])) (faults.FarNeighbour (begin_of_offset front at)) (faults.Syntax at) f g a b
 judged_one front at t f g a b = a ∙ sym b

@@ -1,19 +1,23 @@
-pub mod Complete
-pub mod CutParts
-pub mod Facts
-pub mod FinalReads
-pub mod Judging
-pub mod Onward
-pub mod Outcomes
-pub mod Over
-pub mod ReadOver
-pub mod SameRead
-pub mod Shown
-pub mod Spelled
-pub mod Standing
-pub mod Stepping
-pub mod TangledLaws
-pub mod TextSteps
-pub mod TextWalk
-pub mod TokenCases
-pub mod Walking
+pub mod Answers
+mod ArgumentsFacts
+mod Complete
+mod CutParts
+mod Facts
+mod FinalReads
+mod Judging
+mod Onward
+mod Outcomes
+mod ReadsFacts
+mod SameRead
+mod Shown
+mod Spelled
+mod Standing
+mod Stepping
+mod TangledLaws
+mod TextSteps
+mod TextWalk
+mod TokenCases
+mod TokenFacts
+mod TreeFacts
+pub mod ValuesFacts
+mod Walking

@@ -1,7 +1,7 @@
 -- Reading over more tokens, and that from wherever it stands a formula can be ended.
 use Rattle.std.proofs.Common.{◌≡◌, ℕ, Bool, false, List, [], ◌∷◌, ◌++◌, Option, Some, None, refl, ap, ◌∙◌}
 use Rattle.cpl_formula.specs.Grammar.{Expr, Atom, Offset}
-use Rattle.cpl_formula.specs.Grammar.Atom.{digit, neighbour, group, abs, min_of, max_of, select}
+use Rattle.cpl_formula.specs.Grammar.Atom.{digit, neighbour, group, unary, binary, ternary}
 use Rattle.cpl_formula.specs.Grammar.Near.{none}
 use Rattle.cpl_formula.specs.Grammar.Expr.{term}
 use Rattle.cpl_formula.specs.Grammar.Term.{factor}
@@ -10,7 +10,7 @@ use Rattle.cpl_formula.specs.declared.formula.Read.{Read}
 use Rattle.cpl_formula.specs.declared.tokens.Token.{Token}
 use Rattle.cpl_formula.specs.declared.tokens.Token.TheVariants as token
 use Rattle.cpl_formula.specs.declared.tokens.SumSign.TheVariants.{Plus}
-use Rattle.cpl_formula.proofs.Standing.Opened.{grouping, absolute, least, least_of, greatest, greatest_of, selecting, selecting_if, selecting_or}
+use Rattle.cpl_formula.proofs.Standing.Opened.{grouping, only_of, first_of_two, second_of_two, first_of_three, second_of_three, third_of_three}
 use Rattle.cpl_formula.proofs.Standing.Place.{wanted, called, named, column, between, row, ending, behind}
 use Rattle.cpl_formula.proofs.Standing.{Standing, Waits, Opened, Place, standing, expr_at, offset_of, opening_of, advance, and_then, go, settled, whole}
 
@@ -63,15 +63,13 @@ filler = term (factor (atom (digit 0)))
 ends_behind : (brackets : List (Waits × Opened)) (w : Waits) (done : List Read) (a : Atom) → Ends (standing brackets w (behind a) done)
 ends_behind [] w done a = record { more = []; end = standing [] w (behind a) done; expr = expr_at w a; goes = refl; is_whole = refl }
 ends_behind ((v, grouping) ∷ brackets) w done a = onward _ token.Close _ refl (ends_behind brackets v done (group (expr_at w a)))
-ends_behind ((v, absolute) ∷ brackets) w done a = onward _ token.Close _ refl (ends_behind brackets v done (abs (expr_at w a)))
-ends_behind ((v, least_of x) ∷ brackets) w done a = onward _ token.Close _ refl (ends_behind brackets v done (min_of x (expr_at w a)))
-ends_behind ((v, greatest_of x) ∷ brackets) w done a = onward _ token.Close _ refl (ends_behind brackets v done (max_of x (expr_at w a)))
-ends_behind ((v, selecting_or c x) ∷ brackets) w done a = onward _ token.Close _ refl (ends_behind brackets v done (select c x (expr_at w a)))
-ends_behind ((v, least) ∷ brackets) w done a = onward _ token.Comma _ refl (onward _ (token.Digit 0) _ refl (onward _ token.Close _ refl (ends_behind brackets v done (min_of (expr_at w a) filler))))
-ends_behind ((v, greatest) ∷ brackets) w done a = onward _ token.Comma _ refl (onward _ (token.Digit 0) _ refl (onward _ token.Close _ refl (ends_behind brackets v done (max_of (expr_at w a) filler))))
-ends_behind ((v, selecting_if c) ∷ brackets) w done a = onward _ token.Comma _ refl (onward _ (token.Digit 0) _ refl (onward _ token.Close _ refl (ends_behind brackets v done (select c (expr_at w a) filler))))
-ends_behind ((v, selecting) ∷ brackets) w done a =
-    onward _ token.Comma _ refl (onward _ (token.Digit 0) _ refl (onward _ token.Comma _ refl (onward _ (token.Digit 0) _ refl (onward _ token.Close _ refl (ends_behind brackets v done (select (expr_at w a) filler filler))))))
+ends_behind ((v, only_of f) ∷ brackets) w done a = onward _ token.Close _ refl (ends_behind brackets v done (unary f (expr_at w a)))
+ends_behind ((v, second_of_two f x) ∷ brackets) w done a = onward _ token.Close _ refl (ends_behind brackets v done (binary f x (expr_at w a)))
+ends_behind ((v, third_of_three f x y) ∷ brackets) w done a = onward _ token.Close _ refl (ends_behind brackets v done (ternary f x y (expr_at w a)))
+ends_behind ((v, first_of_two f) ∷ brackets) w done a = onward _ token.Comma _ refl (onward _ (token.Digit 0) _ refl (onward _ token.Close _ refl (ends_behind brackets v done (binary f (expr_at w a) filler))))
+ends_behind ((v, second_of_three f x) ∷ brackets) w done a = onward _ token.Comma _ refl (onward _ (token.Digit 0) _ refl (onward _ token.Close _ refl (ends_behind brackets v done (ternary f x (expr_at w a) filler))))
+ends_behind ((v, first_of_three f) ∷ brackets) w done a =
+    onward _ token.Comma _ refl (onward _ (token.Digit 0) _ refl (onward _ token.Comma _ refl (onward _ (token.Digit 0) _ refl (onward _ token.Close _ refl (ends_behind brackets v done (ternary f (expr_at w a) filler filler))))))
 
 ends_wanted : (brackets : List (Waits × Opened)) (w : Waits) (done : List Read) → Ends (standing brackets w wanted done)
 ends_wanted brackets w done = onward _ (token.Digit 0) _ refl (ends_behind brackets w done (digit 0))

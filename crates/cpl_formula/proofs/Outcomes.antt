@@ -1,21 +1,21 @@
 -- What the reader makes of a text is the text's outcome, and a text has no other.
 use Rattle.std.proofs.Common.{◌≡◌, ℕ, ◌<◌, ◌≤◌, Bool, true, false, if◌then◌else◌, leb, List, [], ◌∷◌, ◌++◌, length, Option, Some, None, Result, Ok, Err, refl, sym, ap, subst, ◌∙◌, append-nil, leb-true, leb-false}
-use Rattle.cpl_formula.specs.Formulas.{kinds, Begins, IsFirstFault, Outcome, OutcomeOf, parsed}
+use Rattle.cpl_formula.specs.Formulas.{kinds, IsViable, IsFirstFault, Outcome, OutcomeOf, formula_of}
 use Rattle.cpl_formula.specs.Formulas.Outcome.{tangles, is_faulty, ends_early, is_deep, is_formula}
-use Rattle.cpl_formula.specs.Grammar.{Expr, spelled_expr, input_of, tree_of_expr, reads_of_expr, depth_of_expr}
+use Rattle.cpl_formula.specs.Grammar.{Expr, yield_of_expr, input_of, tree_of_expr, reads_of_expr, depth_of_expr}
 use Rattle.cpl_formula.specs.Grammar.Atom.{field}
-use Rattle.cpl_formula.specs.Reads.{distinct, noted}
-use Rattle.cpl_formula.specs.Steps.{start, walk, at_end, finished, last_operand, ended, expr_at, leaf, located, parsed_of}
+use Rattle.cpl_formula.specs.Reads.{distinct_reads, with_read}
+use Rattle.cpl_formula.specs.Steps.{start, walk, at_end, finished, last_operand, ended, expr_at, leaf, fault_at, parsed_of}
 use Rattle.cpl_formula.specs.Tokens.{Placed, is_tangled, tokens_of}
-use Rattle.cpl_formula.specs.declared.formula.FormulaFault.{FormulaFault}
-use Rattle.cpl_formula.specs.declared.formula.FormulaFault.TheVariants as faults
+use Rattle.cpl_formula.specs.declared.fault.FormulaFault.{FormulaFault}
+use Rattle.cpl_formula.specs.declared.fault.FormulaFault.TheVariants as faults
 use Rattle.cpl_formula.specs.declared.formula.Parsed.{Parsed}
 use Rattle.cpl_formula.specs.declared.formula.Read.{Read}
 use Rattle.cpl_formula.specs.declared.state.Frame.{Frame}
 use Rattle.cpl_formula.specs.declared.state.Level.{Level}
 use Rattle.cpl_formula.specs.declared.state.Part.{Part}
 use Rattle.cpl_formula.specs.declared.tokens.Token.{Token}
-use Rattle.cpl_formula.proofs.Facts.{Reached, reached, spelled_whole, begins_go, go_begins, go_snoc}
+use Rattle.cpl_formula.proofs.Facts.{Reached, reached, yield_of_whole, begins_go, go_begins, go_snoc}
 use Rattle.cpl_formula.proofs.Judging.{judged, judged_one}
 use Rattle.cpl_formula.proofs.CutParts.{kept, deep, part_of_expr}
 use Rattle.cpl_formula.proofs.FinalReads.{extends_self, distinct_snoc}
@@ -39,20 +39,20 @@ not_closed end [] f level last = refl
 not_closed end (g ∷ frames) f level last = refl
 
 abbrev all_of : List (Waits × Opened) → Waits → List Read → Place → List Read
-all_of brackets w done p = distinct (settled_by brackets w done p).done
+all_of brackets w done p = distinct_reads (settled_by brackets w done p).done
 
 finishes_by : (end : ℕ) (brackets : List (Waits × Opened)) (w : Waits) (done : List Read) (p : Place)
-    → finished end (shown_frames (all_of brackets w done p) brackets) (shown_level (all_of brackets w done p) w) (last_operand (distinct done) (shown_mode (all_of brackets w done p) p)) ≡ ending_of end (all_of brackets w done p) (whole (settled_by brackets w done p))
-finishes_by end [] w done (behind a) = ap (ended (distinct done)) (expr_same (distinct done) w a)
+    → finished end (shown_frames (all_of brackets w done p) brackets) (shown_level (all_of brackets w done p) w) (last_operand (distinct_reads done) (shown_mode (all_of brackets w done p) p)) ≡ ending_of end (all_of brackets w done p) (whole (settled_by brackets w done p))
+finishes_by end [] w done (behind a) = ap (ended (distinct_reads done)) (expr_same (distinct_reads done) w a)
 finishes_by end [] w done (named k) =
-    let all = distinct (done ++ here k ∷ []) in
-    let first : ended (noted (distinct done) (here k)) (expr_at (shown_level all w) (leaf (input_of (distinct done) (here k)))) ≡ ended all (expr_at (shown_level all w) (leaf (input_of all (here k)))) =
+    let all = distinct_reads (done ++ here k ∷ []) in
+    let first : ended (with_read (distinct_reads done) (here k)) (expr_at (shown_level all w) (leaf (input_of (distinct_reads done) (here k)))) ≡ ended all (expr_at (shown_level all w) (leaf (input_of all (here k)))) =
     λ i. ended (sym (distinct_snoc done (here k)) i) (expr_at (shown_level all w) (last_input all done (here k) (extends_self all) i)) in
     first ∙ ap (ended all) (expr_same all w (field k))
 finishes_by end [] w done p = refl
-finishes_by end (b ∷ brackets) w done (behind a) = not_closed end (shown_frames (distinct done) brackets) (shown_frame (distinct done) b) (shown_level (distinct done) w) _
+finishes_by end (b ∷ brackets) w done (behind a) = not_closed end (shown_frames (distinct_reads done) brackets) (shown_frame (distinct_reads done) b) (shown_level (distinct_reads done) w) _
 finishes_by end (b ∷ brackets) w done (named k) =
-    let all = distinct (done ++ here k ∷ []) in
+    let all = distinct_reads (done ++ here k ∷ []) in
     not_closed end (shown_frames all brackets) (shown_frame all b) (shown_level all w) _
 finishes_by end (b ∷ brackets) w done p = refl
 
@@ -64,39 +64,39 @@ made_of tangled tokens end = if tangled then Err faults.DeepFormula else at_end 
 
 -- over all tokens
 made_through : (tokens : List Placed) (end : ℕ) (final : Standing) → go beginning (kinds tokens) ≡ Some final
-    → made_of false tokens end ≡ ending_of end (distinct (settled final).done) (whole (settled final))
+    → made_of false tokens end ≡ ending_of end (distinct_reads (settled final).done) (whole (settled final))
 made_through tokens end final goes =
-    let all = distinct (settled final).done in
-    let whole_walk : walk 0 ([], start) (tokens ++ []) ≡ Ok (distinct final.done, shown all final) = walk_over all tokens [] beginning final 0 goes (settled_grows final) in
+    let all = distinct_reads (settled final).done in
+    let whole_walk : walk 0 ([], start) (tokens ++ []) ≡ Ok (distinct_reads final.done, shown all final) = walk_over all tokens [] beginning final 0 goes (settled_grows final) in
     ap (λ (ts : List Placed). at_end end (walk 0 ([], start) ts)) (sym (append-nil tokens)) ∙ ap (at_end end) whole_walk ∙ finishes_by end final.brackets final.waits final.done final.place
 
 -- up to the token where reading stops
 made_stopped : (tokens : List Placed) (end : ℕ) (front : List Placed) (t : Placed) (rest : List Placed) (s : Standing)
     → tokens ≡ front ++ (t ∷ rest) → go beginning (kinds front) ≡ Some s → advance s t.token ≡ None
-    → made_of false tokens end ≡ Err (located (kind_of s.place t.token) (last_place 0 front) t.at)
+    → made_of false tokens end ≡ Err (fault_at (kind_of s.place t.token) (last_place 0 front) t.at)
 made_stopped tokens end front t rest s parted goes stops =
     ap (λ (ts : List Placed). at_end end (walk 0 ([], start) ts)) parted ∙ ap (at_end end) (walk_stops front t rest beginning s 0 goes stops)
 
 -- over the tokens of a derivation
-made_derived : (tokens : List Placed) (end : ℕ) (e : Expr) → kinds tokens ≡ spelled_expr e
-    → made_of false tokens end ≡ ended (distinct (reads_of_expr e)) (part_of_expr (distinct (reads_of_expr e)) e)
+made_derived : (tokens : List Placed) (end : ℕ) (e : Expr) → kinds tokens ≡ yield_of_expr e
+    → made_of false tokens end ≡ ended (distinct_reads (reads_of_expr e)) (part_of_expr (distinct_reads (reads_of_expr e)) e)
 made_derived tokens end e spelled =
     let there : Reached e = reached e in
-    made_through tokens end there.stands (ap (go beginning) spelled ∙ there.goes) ∙ ap (ending_of end (distinct (settled there.stands).done)) there.is_whole ∙ ap (λ (done : List Read). ended (distinct done) (part_of_expr (distinct done) e)) there.reads
+    made_through tokens end there.stands (ap (go beginning) spelled ∙ there.goes) ∙ ap (ending_of end (distinct_reads (settled there.stands).done)) there.is_whole ∙ ap (λ (done : List Read). ended (distinct_reads done) (part_of_expr (distinct_reads done) e)) there.reads
 
-made_deep : (tokens : List Placed) (end : ℕ) (e : Expr) → kinds tokens ≡ spelled_expr e → 32 < depth_of_expr e → made_of false tokens end ≡ Err faults.DeepFormula
+made_deep : (tokens : List Placed) (end : ℕ) (e : Expr) → kinds tokens ≡ yield_of_expr e → 32 < depth_of_expr e → made_of false tokens end ≡ Err faults.DeepFormula
 made_deep tokens end e spelled large =
-    let reads = distinct (reads_of_expr e) in
+    let reads = distinct_reads (reads_of_expr e) in
     made_derived tokens end e spelled ∙ ap (ended reads) (deep (tree_of_expr reads e) (depth_of_expr e) large)
 
-made_formula : (tokens : List Placed) (end : ℕ) (e : Expr) → kinds tokens ≡ spelled_expr e → depth_of_expr e ≤ 32 → made_of false tokens end ≡ Ok (parsed e)
+made_formula : (tokens : List Placed) (end : ℕ) (e : Expr) → kinds tokens ≡ yield_of_expr e → depth_of_expr e ≤ 32 → made_of false tokens end ≡ Ok (formula_of e)
 made_formula tokens end e spelled small =
-    let reads = distinct (reads_of_expr e) in
+    let reads = distinct_reads (reads_of_expr e) in
     made_derived tokens end e spelled ∙ ap (ended reads) (kept (tree_of_expr reads e) (depth_of_expr e) small)
 
 -- tokens that aren't those of a derivation
 not_whole : (tokens : List Placed) (final : Standing) → go beginning (kinds tokens) ≡ Some final → whole (settled final) ≡ None → (e : Expr)
-    → kinds tokens ≡ spelled_expr e → ⊥
+    → kinds tokens ≡ yield_of_expr e → ⊥
 not_whole tokens final goes none e spelled =
     let there : Reached e = reached e in
     let same_go : go beginning (kinds tokens) ≡ Some there.stands = ap (go beginning) spelled ∙ there.goes in
@@ -107,7 +107,7 @@ not_whole tokens final goes none e spelled =
     cc
 
 -- no formula goes on with the token where reading stops
-no_more : (ts : List Token) (t : Token) (s : Standing) → go beginning ts ≡ Some s → advance s t ≡ None → Begins (ts ++ t ∷ []) → ⊥
+no_more : (ts : List Token) (t : Token) (s : Standing) → go beginning ts ≡ Some s → advance s t ≡ None → IsViable (ts ++ t ∷ []) → ⊥
 no_more ts t s goes stops begins =
     let more = begins_go (ts ++ t ∷ []) begins in
     let none : go beginning (ts ++ t ∷ []) ≡ None = go_snoc beginning ts t s goes ∙ stops in
@@ -115,14 +115,14 @@ no_more ts t s goes stops begins =
     cc
 
 -- and it stops at a token with which no formula goes on
-stops_by : (ts : List Token) (t : Token) (s : Standing) (o : Option Standing) → go beginning ts ≡ Some s → (Begins (ts ++ t ∷ []) → ⊥)
+stops_by : (ts : List Token) (t : Token) (s : Standing) (o : Option Standing) → go beginning ts ≡ Some s → (IsViable (ts ++ t ∷ []) → ⊥)
     → advance s t ≡ o → advance s t ≡ None
 stops_by ts t s None goes stops is = is
 stops_by ts t s (Some next) goes stops is = absurd (stops (go_begins (ts ++ t ∷ []) next (go_snoc beginning ts t s goes ∙ is)))
 
 -- ---- the outcome
 
-outcome_spelled : (tokens : List Placed) (end : ℕ) (e : Expr) (b : Bool) → kinds tokens ≡ spelled_expr e → leb (depth_of_expr e) 32 ≡ b
+outcome_spelled : (tokens : List Placed) (end : ℕ) (e : Expr) (b : Bool) → kinds tokens ≡ yield_of_expr e → leb (depth_of_expr e) 32 ≡ b
     → Outcome false tokens end (made_of false tokens end)
 outcome_spelled tokens end e true spelled small =
     let fits = leb-true (depth_of_expr e) 32 small in
@@ -134,24 +134,24 @@ outcome_spelled tokens end e false spelled large =
 outcome_through : (tokens : List Placed) (end : ℕ) (final : Standing) (e : Option Expr) → go beginning (kinds tokens) ≡ Some final
     → whole (settled final) ≡ e → Outcome false tokens end (made_of false tokens end)
 outcome_through tokens end final None goes is =
-    let early : made_of false tokens end ≡ Err (faults.Syntax end) = made_through tokens end final goes ∙ ap (ending_of end (distinct (settled final).done)) is in
+    let early : made_of false tokens end ≡ Err (faults.Syntax end) = made_through tokens end final goes ∙ ap (ending_of end (distinct_reads (settled final).done)) is in
     subst (λ (r : Result Parsed FormulaFault). Outcome false tokens end r) (sym early) (ends_early refl (go_begins (kinds tokens) final goes) (not_whole tokens final goes is))
 outcome_through tokens end final (Some e) goes is =
-    outcome_spelled tokens end e (leb (depth_of_expr e) 32) (spelled_whole (kinds tokens) final e goes is) refl
+    outcome_spelled tokens end e (leb (depth_of_expr e) 32) (yield_of_whole (kinds tokens) final e goes is) refl
 
 outcome_by : (tokens : List Placed) (end : ℕ) → Run beginning tokens → Outcome false tokens end (made_of false tokens end)
 outcome_by tokens end (through final goes) = outcome_through tokens end final (whole (settled final)) goes refl
 outcome_by tokens end (stopped front t rest s parted goes stops) =
-    let fault = located (kind_of s.place t.token) (last_place 0 front) t.at in
+    let fault = fault_at (kind_of s.place t.token) (last_place 0 front) t.at in
     let first : IsFirstFault tokens fault = record {
       before = front;
       at = t.at;
       token = t.token;
       after = rest;
-      parted = parted;
-      begins = go_begins (kinds front) s goes;
-      stops = no_more (kinds front) t.token s goes stops;
-      judged = judged front t.at t.token s goes stops;
+      tokens_are = parted;
+      viable = go_begins (kinds front) s goes;
+      not_viable = no_more (kinds front) t.token s goes stops;
+      fault_is = judged front t.at t.token s goes stops;
     } in
     subst (λ (r : Result Parsed FormulaFault). Outcome false tokens end r) (sym (made_stopped tokens end front t rest s parted goes stops)) (is_faulty fault refl first)
 
@@ -168,18 +168,18 @@ outcome fields alarms text = outcome_of (is_tangled text) (tokens_of fields alar
 
 fault_made : (tokens : List Placed) (end : ℕ) (fault : FormulaFault) → IsFirstFault tokens fault → Err fault ≡ made_of false tokens end
 fault_made tokens end fault first =
-    let here = begins_go (kinds first.before) first.begins in
+    let here = begins_go (kinds first.before) first.viable in
     let s : Standing = here.0 in
     let goes : go beginning (kinds first.before) ≡ Some s = here.1 in
-    let stops = stops_by (kinds first.before) first.token s (advance s first.token) goes first.stops refl in
+    let stops = stops_by (kinds first.before) first.token s (advance s first.token) goes first.not_viable refl in
     let t : Placed = record { at = first.at; token = first.token } in
-    let same = judged_one first.before first.at first.token fault (located (kind_of s.place first.token) (last_place 0 first.before) first.at) first.judged (judged first.before first.at first.token s goes stops) in
-    ap Err same ∙ sym (made_stopped tokens end first.before t first.after s first.parted goes stops)
+    let same = judged_one first.before first.at first.token fault (fault_at (kind_of s.place first.token) (last_place 0 first.before) first.at) first.fault_is (judged first.before first.at first.token s goes stops) in
+    ap Err same ∙ sym (made_stopped tokens end first.before t first.after s first.tokens_are goes stops)
 
 early_by : (tokens : List Placed) (end : ℕ) (final : Standing) (e : Option Expr) → go beginning (kinds tokens) ≡ Some final
-    → whole (settled final) ≡ e → ((d : Expr) → kinds tokens ≡ spelled_expr d → ⊥) → Err (faults.Syntax end) ≡ made_of false tokens end
-early_by tokens end final None goes is spells = sym (made_through tokens end final goes ∙ ap (ending_of end (distinct (settled final).done)) is)
-early_by tokens end final (Some e) goes is spells = absurd (spells e (spelled_whole (kinds tokens) final e goes is))
+    → whole (settled final) ≡ e → ((d : Expr) → kinds tokens ≡ yield_of_expr d → ⊥) → Err (faults.Syntax end) ≡ made_of false tokens end
+early_by tokens end final None goes is spells = sym (made_through tokens end final goes ∙ ap (ending_of end (distinct_reads (settled final).done)) is)
+early_by tokens end final (Some e) goes is spells = absurd (spells e (yield_of_whole (kinds tokens) final e goes is))
 
 only_by : (tangled : Bool) (tokens : List Placed) (end : ℕ) (r : Result Parsed FormulaFault) → Outcome tangled tokens end r → r ≡ made_of tangled tokens end
 only_by tangled tokens end r (tangles is) = sym (ap (λ (b : Bool). made_of b tokens end) is)

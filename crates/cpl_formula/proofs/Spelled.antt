@@ -1,69 +1,67 @@
 -- The tokens that were read where reading stands somewhere, and that they are those that it went over.
 use Rattle.std.proofs.Common.{◌≡◌, ℕ, zero, suc, Bool, true, false, List, [], ◌∷◌, ◌++◌, Option, Some, None, refl, ap, sym, ◌∙◌, subst}
 use Rattle.std.proofs.lemmas.List.{append_assoc, append-nil}
-use Rattle.cpl_formula.specs.Grammar.{Expr, Term, Factor, Atom, Offset, spelled_expr, spelled_term, spelled_factor, spelled_atom, spelled_offset}
+use Rattle.cpl_formula.specs.Grammar.{Expr, Term, Factor, Atom, Offset, yield_of_expr, yield_of_term, yield_of_factor, yield_of_atom, yield_of_offset}
 use Rattle.cpl_formula.specs.Grammar.Atom.{field}
 use Rattle.cpl_formula.specs.declared.formula.Read.{Read}
-use Rattle.cpl_formula.specs.declared.tokens.Function.{Function}
-use Rattle.cpl_formula.specs.declared.tokens.Function.TheVariants as function
+use Rattle.cpl_formula.specs.declared.functions.Function.{Function}
+use Rattle.cpl_formula.specs.declared.functions.Function.TheVariants as function
 use Rattle.cpl_formula.specs.declared.tokens.ProductSign.{ProductSign}
 use Rattle.cpl_formula.specs.declared.tokens.SumSign.{SumSign}
 use Rattle.cpl_formula.specs.declared.tokens.SumSign.TheVariants.{Less}
 use Rattle.cpl_formula.specs.declared.tokens.Token.{Token}
 use Rattle.cpl_formula.specs.declared.tokens.Token.TheVariants as token
-use Rattle.cpl_formula.proofs.Standing.Opened.{grouping, absolute, least, least_of, greatest, greatest_of, selecting, selecting_if, selecting_or}
+use Rattle.cpl_formula.proofs.Standing.Opened.{grouping, only_of, first_of_two, second_of_two, first_of_three, second_of_three, third_of_three}
 use Rattle.cpl_formula.proofs.Standing.Place.{wanted, called, named, column, between, row, ending, behind}
 use Rattle.cpl_formula.proofs.Standing.{Standing, Waits, Opened, Place, standing, negated, with_product, with_sum, expr_at, term_at, here, at_wanted, at_called, at_named, at_column, at_between, at_row, at_ending, at_behind, close, comma, advance, advance_by, and_then, go, settled, whole}
 
 -- ---- what was read
 
-abbrev pub spelled_sum : Option (Expr × SumSign) → List Token
-spelled_sum None = []
-spelled_sum (Some s) = spelled_expr s.0 ++ token.Sum s.1 ∷ []
+abbrev pub yield_of_sum : Option (Expr × SumSign) → List Token
+yield_of_sum None = []
+yield_of_sum (Some s) = yield_of_expr s.0 ++ token.Sum s.1 ∷ []
 
-abbrev pub spelled_product : Option (Term × ProductSign) → List Token
-spelled_product None = []
-spelled_product (Some p) = spelled_term p.0 ++ token.Product p.1 ∷ []
+abbrev pub yield_of_product : Option (Term × ProductSign) → List Token
+yield_of_product None = []
+yield_of_product (Some p) = yield_of_term p.0 ++ token.Product p.1 ∷ []
 
 abbrev pub minus_signs : ℕ → List Token
 minus_signs zero = []
 minus_signs (suc n) = token.Sum Less ∷ minus_signs n
 
-abbrev pub spelled_waits : Waits → List Token
-spelled_waits w = spelled_sum w.sums ++ (spelled_product w.products ++ minus_signs w.minuses)
+abbrev pub yield_of_waits : Waits → List Token
+yield_of_waits w = yield_of_sum w.sums ++ (yield_of_product w.products ++ minus_signs w.minuses)
 
-abbrev pub spelled_opened : Opened → List Token
-spelled_opened grouping = token.Open ∷ []
-spelled_opened absolute = token.Function function.Abs ∷ token.Open ∷ []
-spelled_opened least = token.Function function.Min ∷ token.Open ∷ []
-spelled_opened (least_of a) = token.Function function.Min ∷ token.Open ∷ (spelled_expr a ++ token.Comma ∷ [])
-spelled_opened greatest = token.Function function.Max ∷ token.Open ∷ []
-spelled_opened (greatest_of a) = token.Function function.Max ∷ token.Open ∷ (spelled_expr a ++ token.Comma ∷ [])
-spelled_opened selecting = token.Function function.Select ∷ token.Open ∷ []
-spelled_opened (selecting_if c) = token.Function function.Select ∷ token.Open ∷ (spelled_expr c ++ token.Comma ∷ [])
-spelled_opened (selecting_or c a) =
-    token.Function function.Select ∷ token.Open ∷ (spelled_expr c ++ (token.Comma ∷ (spelled_expr a ++ token.Comma ∷ [])))
+abbrev pub yield_of_opened : Opened → List Token
+yield_of_opened grouping = token.Open ∷ []
+yield_of_opened (only_of f) = token.Function (function.Unary f) ∷ token.Open ∷ []
+yield_of_opened (first_of_two f) = token.Function (function.Binary f) ∷ token.Open ∷ []
+yield_of_opened (second_of_two f a) = token.Function (function.Binary f) ∷ token.Open ∷ (yield_of_expr a ++ token.Comma ∷ [])
+yield_of_opened (first_of_three f) = token.Function (function.Ternary f) ∷ token.Open ∷ []
+yield_of_opened (second_of_three f a) = token.Function (function.Ternary f) ∷ token.Open ∷ (yield_of_expr a ++ token.Comma ∷ [])
+yield_of_opened (third_of_three f a b) =
+    token.Function (function.Ternary f) ∷ token.Open ∷ (yield_of_expr a ++ (token.Comma ∷ (yield_of_expr b ++ token.Comma ∷ [])))
 
-abbrev pub spelled_brackets : List (Waits × Opened) → List Token
-spelled_brackets [] = []
-spelled_brackets (b ∷ brackets) = spelled_brackets brackets ++ (spelled_waits b.0 ++ spelled_opened b.1)
+abbrev pub yield_of_brackets : List (Waits × Opened) → List Token
+yield_of_brackets [] = []
+yield_of_brackets (b ∷ brackets) = yield_of_brackets brackets ++ (yield_of_waits b.0 ++ yield_of_opened b.1)
 
 abbrev pub minus_if : Bool → List Token
 minus_if true = token.Sum Less ∷ []
 minus_if false = []
 
-abbrev pub spelled_place : Place → List Token
-spelled_place wanted = []
-spelled_place (called f) = token.Function f ∷ []
-spelled_place (named k) = token.Field k ∷ []
-spelled_place (column k m) = token.Field k ∷ token.OpenBracket ∷ minus_if m
-spelled_place (between k x) = token.Field k ∷ token.OpenBracket ∷ spelled_offset x
-spelled_place (row k x m) = token.Field k ∷ token.OpenBracket ∷ (spelled_offset x ++ (token.Comma ∷ minus_if m))
-spelled_place (ending k x y) = token.Field k ∷ token.OpenBracket ∷ (spelled_offset x ++ (token.Comma ∷ spelled_offset y))
-spelled_place (behind a) = spelled_atom a
+abbrev pub yield_of_place : Place → List Token
+yield_of_place wanted = []
+yield_of_place (called f) = token.Function f ∷ []
+yield_of_place (named k) = token.Field k ∷ []
+yield_of_place (column k m) = token.Field k ∷ token.OpenBracket ∷ minus_if m
+yield_of_place (between k x) = token.Field k ∷ token.OpenBracket ∷ yield_of_offset x
+yield_of_place (row k x m) = token.Field k ∷ token.OpenBracket ∷ (yield_of_offset x ++ (token.Comma ∷ minus_if m))
+yield_of_place (ending k x y) = token.Field k ∷ token.OpenBracket ∷ (yield_of_offset x ++ (token.Comma ∷ yield_of_offset y))
+yield_of_place (behind a) = yield_of_atom a
 
 abbrev pub spelled : Standing → List Token
-spelled s = spelled_brackets s.brackets ++ (spelled_waits s.waits ++ spelled_place s.place)
+spelled s = yield_of_brackets s.brackets ++ (yield_of_waits s.waits ++ yield_of_place s.place)
 
 -- ---- what waits, and an atom
 
@@ -71,23 +69,23 @@ minus_last : (n : ℕ) → token.Sum Less ∷ minus_signs n ≡ minus_signs n ++
 minus_last zero = refl
 minus_last (suc n) = ap (λ ts. token.Sum Less ∷ ts) (minus_last n)
 
-spelled_negated : (n : ℕ) (a : Atom) → spelled_factor (negated n a) ≡ minus_signs n ++ spelled_atom a
-spelled_negated zero a = refl
-spelled_negated (suc n) a = ap (λ ts. token.Sum Less ∷ ts) (spelled_negated n a)
+yield_of_negated : (n : ℕ) (a : Atom) → yield_of_factor (negated n a) ≡ minus_signs n ++ yield_of_atom a
+yield_of_negated zero a = refl
+yield_of_negated (suc n) a = ap (λ ts. token.Sum Less ∷ ts) (yield_of_negated n a)
 
-spelled_with_product : (p : Option (Term × ProductSign)) (f : Factor) → spelled_term (with_product p f) ≡ spelled_product p ++ spelled_factor f
-spelled_with_product None f = refl
-spelled_with_product (Some p) f = simp append_assoc
+yield_of_with_product : (p : Option (Term × ProductSign)) (f : Factor) → yield_of_term (with_product p f) ≡ yield_of_product p ++ yield_of_factor f
+yield_of_with_product None f = refl
+yield_of_with_product (Some p) f = simp append_assoc
 
-spelled_with_sum : (s : Option (Expr × SumSign)) (t : Term) → spelled_expr (with_sum s t) ≡ spelled_sum s ++ spelled_term t
-spelled_with_sum None t = refl
-spelled_with_sum (Some s) t = simp append_assoc
+yield_of_with_sum : (s : Option (Expr × SumSign)) (t : Term) → yield_of_expr (with_sum s t) ≡ yield_of_sum s ++ yield_of_term t
+yield_of_with_sum None t = refl
+yield_of_with_sum (Some s) t = simp append_assoc
 
-spelled_term_at : (w : Waits) (a : Atom) → spelled_term (term_at w a) ≡ spelled_product w.products ++ (minus_signs w.minuses ++ spelled_atom a)
-spelled_term_at w a = spelled_with_product w.products (negated w.minuses a) ∙ ap (λ ts. spelled_product w.products ++ ts) (spelled_negated w.minuses a)
+yield_of_term_at : (w : Waits) (a : Atom) → yield_of_term (term_at w a) ≡ yield_of_product w.products ++ (minus_signs w.minuses ++ yield_of_atom a)
+yield_of_term_at w a = yield_of_with_product w.products (negated w.minuses a) ∙ ap (λ ts. yield_of_product w.products ++ ts) (yield_of_negated w.minuses a)
 
-spelled_expr_at : (w : Waits) (a : Atom) → spelled_expr (expr_at w a) ≡ spelled_waits w ++ spelled_atom a
-spelled_expr_at w a = spelled_with_sum w.sums (term_at w a) ∙ rw (spelled_term_at w a) (simp append_assoc)
+yield_of_expr_at : (w : Waits) (a : Atom) → yield_of_expr (expr_at w a) ≡ yield_of_waits w ++ yield_of_atom a
+yield_of_expr_at w a = yield_of_with_sum w.sums (term_at w a) ∙ rw (yield_of_term_at w a) (simp append_assoc)
 
 -- ---- one token
 
@@ -107,10 +105,9 @@ wanted_spells brackets w done (token.Quantity q) = simp (append_assoc, append-ni
 wanted_spells brackets w done t = tt
 
 called_spells : (brackets : List (Waits × Opened)) (w : Waits) (done : List Read) (f : Function) (t : Token) → Spells (spelled (standing brackets w (called f) done) ++ t ∷ []) (at_called brackets w done f t)
-called_spells brackets w done function.Abs token.Open = simp (append_assoc, append-nil)
-called_spells brackets w done function.Min token.Open = simp (append_assoc, append-nil)
-called_spells brackets w done function.Max token.Open = simp (append_assoc, append-nil)
-called_spells brackets w done function.Select token.Open = simp (append_assoc, append-nil)
+called_spells brackets w done (function.Unary f) token.Open = simp (append_assoc, append-nil)
+called_spells brackets w done (function.Binary f) token.Open = simp (append_assoc, append-nil)
+called_spells brackets w done (function.Ternary f) token.Open = simp (append_assoc, append-nil)
 called_spells brackets w done f t = tt
 
 column_spells : (brackets : List (Waits × Opened)) (w : Waits) (done : List Read) (k : ℕ) (m : Bool) (t : Token) → Spells (spelled (standing brackets w (column k m) done) ++ t ∷ []) (at_column brackets w done k m t)
@@ -141,30 +138,28 @@ ending_spells : (brackets : List (Waits × Opened)) (w : Waits) (done : List Rea
 ending_spells brackets w done k x y token.CloseBracket = simp append_assoc
 ending_spells brackets w done k x y t = tt
 
-close_spells : (brackets : List (Waits × Opened)) (done : List Read) (e : Expr) → Spells (spelled_brackets brackets ++ (spelled_expr e ++ token.Close ∷ [])) (close brackets done e)
+close_spells : (brackets : List (Waits × Opened)) (done : List Read) (e : Expr) → Spells (yield_of_brackets brackets ++ (yield_of_expr e ++ token.Close ∷ [])) (close brackets done e)
 close_spells ((w, grouping) ∷ brackets) done e = simp append_assoc
-close_spells ((w, absolute) ∷ brackets) done e = simp append_assoc
-close_spells ((w, least_of a) ∷ brackets) done e = simp append_assoc
-close_spells ((w, greatest_of a) ∷ brackets) done e = simp append_assoc
-close_spells ((w, selecting_or c a) ∷ brackets) done e = simp append_assoc
+close_spells ((w, only_of f) ∷ brackets) done e = simp append_assoc
+close_spells ((w, second_of_two f a) ∷ brackets) done e = simp append_assoc
+close_spells ((w, third_of_three f a b) ∷ brackets) done e = simp append_assoc
 close_spells ((w, opened) ∷ brackets) done e = tt
 close_spells [] done e = tt
 
-comma_spells : (brackets : List (Waits × Opened)) (done : List Read) (e : Expr) → Spells (spelled_brackets brackets ++ (spelled_expr e ++ token.Comma ∷ [])) (comma brackets done e)
-comma_spells ((w, least) ∷ brackets) done e = simp (append_assoc, append-nil)
-comma_spells ((w, greatest) ∷ brackets) done e = simp (append_assoc, append-nil)
-comma_spells ((w, selecting) ∷ brackets) done e = simp (append_assoc, append-nil)
-comma_spells ((w, selecting_if c) ∷ brackets) done e = simp (append_assoc, append-nil)
+comma_spells : (brackets : List (Waits × Opened)) (done : List Read) (e : Expr) → Spells (yield_of_brackets brackets ++ (yield_of_expr e ++ token.Comma ∷ [])) (comma brackets done e)
+comma_spells ((w, first_of_two f) ∷ brackets) done e = simp (append_assoc, append-nil)
+comma_spells ((w, first_of_three f) ∷ brackets) done e = simp (append_assoc, append-nil)
+comma_spells ((w, second_of_three f a) ∷ brackets) done e = simp (append_assoc, append-nil)
 comma_spells ((w, opened) ∷ brackets) done e = tt
 comma_spells [] done e = tt
 
 -- tokens behind an expression of which an atom is the last
-behind_then : (brackets : List (Waits × Opened)) (w : Waits) (a : Atom) (t : Token) → spelled_brackets brackets ++ (spelled_expr (expr_at w a) ++ t ∷ []) ≡ spelled_brackets brackets ++ (spelled_waits w ++ spelled_atom a) ++ t ∷ []
-behind_then brackets w a t = rw (spelled_expr_at w a) (simp append_assoc)
+behind_then : (brackets : List (Waits × Opened)) (w : Waits) (a : Atom) (t : Token) → yield_of_brackets brackets ++ (yield_of_expr (expr_at w a) ++ t ∷ []) ≡ yield_of_brackets brackets ++ (yield_of_waits w ++ yield_of_atom a) ++ t ∷ []
+behind_then brackets w a t = rw (yield_of_expr_at w a) (simp append_assoc)
 
-behind_spells : (brackets : List (Waits × Opened)) (w : Waits) (done : List Read) (a : Atom) (t : Token) → Spells (spelled_brackets brackets ++ (spelled_waits w ++ spelled_atom a) ++ t ∷ []) (at_behind brackets w done a t)
-behind_spells brackets w done a (token.Sum sign) = rw (spelled_expr_at w a) (simp (append_assoc, append-nil))
-behind_spells brackets w done a (token.Product sign) = rw (spelled_term_at w a) (simp (append_assoc, append-nil))
+behind_spells : (brackets : List (Waits × Opened)) (w : Waits) (done : List Read) (a : Atom) (t : Token) → Spells (yield_of_brackets brackets ++ (yield_of_waits w ++ yield_of_atom a) ++ t ∷ []) (at_behind brackets w done a t)
+behind_spells brackets w done a (token.Sum sign) = rw (yield_of_expr_at w a) (simp (append_assoc, append-nil))
+behind_spells brackets w done a (token.Product sign) = rw (yield_of_term_at w a) (simp (append_assoc, append-nil))
 behind_spells brackets w done a token.Close =
     subst (λ tokens. Spells tokens (close brackets done (expr_at w a))) (behind_then brackets w a token.Close) (close_spells brackets done (expr_at w a))
 behind_spells brackets w done a token.Comma =
@@ -197,11 +192,11 @@ go_spells (t ∷ ts) s end goes =
     then_spells ts t s (advance s t) (place_spells s.brackets s.waits s.done s.place t) (λ n. go_spells ts n) end goes
 
 -- a derivation that is whole was spelled
-whole_at : (brackets : List (Waits × Opened)) (w : Waits) (done : List Read) (place : Place) (e : Expr) → whole (settled (standing brackets w place done)) ≡ Some e → spelled (standing brackets w place done) ≡ spelled_expr e
-whole_at [] w done (behind a) e is = let same : expr_at w a ≡ e = cc in rw (← same) (sym (spelled_expr_at w a))
-whole_at [] w done (named k) e is = let same : expr_at w (field k) ≡ e = cc in rw (← same) (sym (spelled_expr_at w (field k)))
+whole_at : (brackets : List (Waits × Opened)) (w : Waits) (done : List Read) (place : Place) (e : Expr) → whole (settled (standing brackets w place done)) ≡ Some e → spelled (standing brackets w place done) ≡ yield_of_expr e
+whole_at [] w done (behind a) e is = let same : expr_at w a ≡ e = cc in rw (← same) (sym (yield_of_expr_at w a))
+whole_at [] w done (named k) e is = let same : expr_at w (field k) ≡ e = cc in rw (← same) (sym (yield_of_expr_at w (field k)))
 whole_at brackets w done (named k) e is = cc
 whole_at brackets w done place e is = cc
 
-pub whole_spells : (s : Standing) (e : Expr) → whole (settled s) ≡ Some e → spelled s ≡ spelled_expr e
+pub whole_spells : (s : Standing) (e : Expr) → whole (settled s) ≡ Some e → spelled s ≡ yield_of_expr e
 whole_spells s e is = whole_at s.brackets s.waits s.done s.place e is

@@ -1,17 +1,20 @@
 -- Reading with derivations in place of trees: what stands open behind some tokens, as parts of a derivation.
 use Rattle.std.proofs.Common.{ℕ, zero, suc, pos, Bool, true, false, List, [], ◌∷◌, ◌++◌, Option, Some, None}
-use Rattle.cpl_formula.specs.Grammar.{Expr, Term, Factor, Atom, Offset, Near, shift}
+use Rattle.cpl_formula.specs.Grammar.{Expr, Term, Factor, Atom, Offset, Near, offset_number}
 use Rattle.cpl_formula.specs.Grammar.Expr.{term, sum}
 use Rattle.cpl_formula.specs.Grammar.Term.{factor, product}
 use Rattle.cpl_formula.specs.Grammar.Factor.{minus, atom}
-use Rattle.cpl_formula.specs.Grammar.Atom.{digit, number, quantity, field, neighbour, group, abs, min_of, max_of, select}
+use Rattle.cpl_formula.specs.Grammar.Atom.{digit, number, quantity, field, neighbour, group, unary, binary, ternary}
 use Rattle.cpl_formula.specs.Grammar.Near.{none, one, two}
 use Rattle.cpl_formula.specs.Grammar.Offset.{ahead, back}
 use Rattle.cpl_formula.specs.Reads.{read_at}
 use Rattle.cpl_formula.specs.declared.formula.Read.{Read}
 use Rattle.cpl_formula.specs.declared.formula.ReadName.TheVariants as names
-use Rattle.cpl_formula.specs.declared.tokens.Function.{Function}
-use Rattle.cpl_formula.specs.declared.tokens.Function.TheVariants as function
+use Rattle.cpl_formula.specs.declared.functions.Binary.{Binary}
+use Rattle.cpl_formula.specs.declared.functions.Function.{Function}
+use Rattle.cpl_formula.specs.declared.functions.Function.TheVariants as function
+use Rattle.cpl_formula.specs.declared.functions.Ternary.{Ternary}
+use Rattle.cpl_formula.specs.declared.functions.Unary.{Unary}
 use Rattle.cpl_formula.specs.declared.tokens.ProductSign.{ProductSign}
 use Rattle.cpl_formula.specs.declared.tokens.SumSign.{SumSign}
 use Rattle.cpl_formula.specs.declared.tokens.SumSign.TheVariants.{Less}
@@ -24,17 +27,15 @@ pub record Waits : Type 0 where
   pub products : Option (Term × ProductSign)
   pub minuses : ℕ
 
--- what an open bracket will make
+-- what is read in an open bracket
 pub data Opened : Type 0 where
   grouping : Opened
-  absolute : Opened
-  least : Opened
-  least_of : Expr → Opened
-  greatest : Opened
-  greatest_of : Expr → Opened
-  selecting : Opened
-  selecting_if : Expr → Opened
-  selecting_or : Expr → Expr → Opened
+  only_of : Unary → Opened
+  first_of_two : Binary → Opened
+  second_of_two : Binary → Expr → Opened
+  first_of_three : Ternary → Opened
+  second_of_three : Ternary → Expr → Opened
+  third_of_three : Ternary → Expr → Expr → Opened
 
 -- what the last token was a part of
 pub data Place : Type 0 where
@@ -84,32 +85,22 @@ abbrev pub expr_at : Waits → Atom → Expr
 expr_at w a = with_sum w.sums (term_at w a)
 
 abbrev pub opening_of : Function → Opened
-opening_of function.Abs = absolute
-opening_of function.Min = least
-opening_of function.Max = greatest
-opening_of function.Select = selecting
+opening_of (function.Unary f) = only_of f
+opening_of (function.Binary f) = first_of_two f
+opening_of (function.Ternary f) = first_of_three f
 
-abbrev pub closed : Opened → Expr → Option Atom
-closed grouping e = Some (group e)
-closed absolute e = Some (abs e)
-closed (least_of a) e = Some (min_of a e)
-closed (greatest_of a) e = Some (max_of a e)
-closed (selecting_or c a) e = Some (select c a e)
-closed least e = None
-closed greatest e = None
-closed selecting e = None
-closed (selecting_if c) e = None
+abbrev pub closed_atom : Opened → Expr → Option Atom
+closed_atom grouping e = Some (group e)
+closed_atom (only_of f) e = Some (unary f e)
+closed_atom (second_of_two f a) e = Some (binary f a e)
+closed_atom (third_of_three f a b) e = Some (ternary f a b e)
+closed_atom opened e = None
 
-abbrev pub continued : Opened → Expr → Option Opened
-continued least e = Some (least_of e)
-continued greatest e = Some (greatest_of e)
-continued selecting e = Some (selecting_if e)
-continued (selecting_if c) e = Some (selecting_or c e)
-continued grouping e = None
-continued absolute e = None
-continued (least_of a) e = None
-continued (greatest_of a) e = None
-continued (selecting_or c a) e = None
+abbrev pub next_opened : Opened → Expr → Option Opened
+next_opened (first_of_two f) e = Some (second_of_two f e)
+next_opened (first_of_three f) e = Some (second_of_three f e)
+next_opened (second_of_three f a) e = Some (third_of_three f a e)
+next_opened opened e = None
 
 -- the digits of an offset
 abbrev pub near_of : ℕ → Option Near
@@ -168,7 +159,7 @@ at_row brackets w done k x m t = None
 
 abbrev pub at_ending : List (Waits × Opened) → Waits → List Read → ℕ → Offset → Offset → Token → Option Standing
 at_ending brackets w done k x y token.CloseBracket =
-    Some (standing brackets w (behind (neighbour k x y)) (done ++ read_at (names.Field k) (shift x) (shift y) ∷ []))
+    Some (standing brackets w (behind (neighbour k x y)) (done ++ read_at (names.Field k) (offset_number x) (offset_number y) ∷ []))
 at_ending brackets w done k x y t = None
 
 abbrev pub after_close : List (Waits × Opened) → Waits → List Read → Option Atom → Option Standing
@@ -177,7 +168,7 @@ after_close brackets w done (Some a) = Some (standing brackets w (behind a) done
 
 abbrev pub close : List (Waits × Opened) → List Read → Expr → Option Standing
 close [] done e = None
-close (b ∷ brackets) done e = after_close brackets b.0 done (closed b.1 e)
+close (b ∷ brackets) done e = after_close brackets b.0 done (closed_atom b.1 e)
 
 abbrev pub after_comma : List (Waits × Opened) → Waits → List Read → Option Opened → Option Standing
 after_comma brackets w done None = None
@@ -185,7 +176,7 @@ after_comma brackets w done (Some opened) = Some (in_brackets brackets w opened 
 
 abbrev pub comma : List (Waits × Opened) → List Read → Expr → Option Standing
 comma [] done e = None
-comma (b ∷ brackets) done e = after_comma brackets b.0 done (continued b.1 e)
+comma (b ∷ brackets) done e = after_comma brackets b.0 done (next_opened b.1 e)
 
 abbrev pub at_behind : List (Waits × Opened) → Waits → List Read → Atom → Token → Option Standing
 at_behind brackets w done a (token.Sum sign) = Some (standing brackets (waiting (Some (expr_at w a, sign)) None 0) wanted done)

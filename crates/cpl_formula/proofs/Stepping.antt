@@ -1,9 +1,9 @@
 -- One step of the reader is one step over derivations.
 use Rattle.std.proofs.Common.{◌≡◌, ℕ, zero, suc, pos, Bool, true, false, List, [], ◌∷◌, ◌++◌, Option, Some, None, Result, Ok, Err, refl, sym, ap, subst, ◌∙◌, leb, arith}
 use Rattle.std.proofs.lemmas.Bool.{lt-leb}
-use Rattle.cpl_formula.specs.Grammar.{Expr, Atom, Offset, shift, input_of}
+use Rattle.cpl_formula.specs.Grammar.{Expr, Atom, Offset, offset_number, input_of}
 use Rattle.cpl_formula.specs.Grammar.Atom.{field}
-use Rattle.cpl_formula.specs.Reads.{noted, distinct, read_at}
+use Rattle.cpl_formula.specs.Reads.{with_read, distinct_reads, read_at}
 use Rattle.cpl_formula.specs.Steps.{At, state, opened, split_last, step, step_by, behind, close, after_close, comma, after_comma, leaf}
 use Rattle.cpl_formula.specs.declared.formula.Read.{Read}
 use Rattle.cpl_formula.specs.declared.formula.ReadName.TheVariants as names
@@ -12,9 +12,9 @@ use Rattle.cpl_formula.specs.declared.state.Level.{Level}
 use Rattle.cpl_formula.specs.declared.state.Mode.TheVariants as mode
 use Rattle.cpl_formula.specs.declared.state.Opening.{Opening}
 use Rattle.cpl_formula.specs.declared.state.Part.{Part}
-use Rattle.cpl_formula.specs.declared.stop.Stop.{Stop}
-use Rattle.cpl_formula.specs.declared.stop.Stop.TheVariants as stop
-use Rattle.cpl_formula.specs.declared.tokens.Function.{Function}
+use Rattle.cpl_formula.specs.declared.fault.Stop.{Stop}
+use Rattle.cpl_formula.specs.declared.fault.Stop.TheVariants as stop
+use Rattle.cpl_formula.specs.declared.functions.Function.{Function}
 use Rattle.cpl_formula.specs.declared.tokens.ProductSign.{ProductSign}
 use Rattle.cpl_formula.specs.declared.tokens.SumSign.{SumSign}
 use Rattle.cpl_formula.specs.declared.tokens.SumSign.TheVariants.{Less}
@@ -22,7 +22,7 @@ use Rattle.cpl_formula.specs.declared.tokens.Token.{Token}
 use Rattle.cpl_formula.specs.declared.tokens.Token.TheVariants as token
 use Rattle.cpl_formula.proofs.CutParts.{part_of_expr, part_of_atom}
 use Rattle.cpl_formula.proofs.FinalReads.{Extends, input_same, distinct_snoc}
-use Rattle.cpl_formula.proofs.Shown.{shown_level, shown_frames, shown_frame, shown_mode, shown_atom, shown_continued, shown, expr_same, term_same, closed_same, continued_same, opening_same, split_behind}
+use Rattle.cpl_formula.proofs.Shown.{shown_level, shown_frames, shown_frame, shown_mode, shown_atom, shown_next, shown, expr_same, term_same, closed_same, next_same, opening_same, split_behind}
 use Rattle.cpl_formula.proofs.Standing as standing
 use Rattle.cpl_formula.proofs.Standing.{Waits, Opened, Place, Standing, here, advance, advance_by, at_wanted, at_called, at_column, at_between, at_row, at_ending, at_behind, at_named, settled, settled_by}
 use Rattle.cpl_formula.proofs.Standing.Place.{wanted, called, named, column, between, row, ending}
@@ -38,8 +38,8 @@ kind_of p t = stop.Syntax
 
 -- A step answers as it is to: it stops, or goes on with what has been read. All reads are those so far, and maybe more.
 abbrev pub StepIs : List Read → List Read → Stop → Result At Stop → Option Standing → Type 0
-StepIs all done stopping result None = Extends all (distinct done) → result ≡ Err stopping
-StepIs all done stopping result (Some next) = Extends all (distinct next.done) → result ≡ Ok (distinct next.done, shown all next)
+StepIs all done stopping result None = Extends all (distinct_reads done) → result ≡ Err stopping
+StepIs all done stopping result (Some next) = Extends all (distinct_reads next.done) → result ≡ Ok (distinct_reads next.done, shown all next)
 
 -- ---- behind an operand
 
@@ -50,31 +50,31 @@ abbrev behind_product : List Read → List Frame → Level → ProductSign → P
 behind_product reads frames level sign part = Ok (reads, state frames (record { sum = level.sum; product = Some (record { left = part; sign = sign }); minus = 0 }) mode.Wanted)
 
 after_close_same : (all : List Read) (brackets : List (Waits × Opened)) (w : Waits) (done : List Read) (a : Option Atom)
-    → StepIs all done stop.Syntax (after_close (distinct done) (shown_frames all brackets) (shown_level all w) (shown_atom all a)) (standing.after_close brackets w done a)
+    → StepIs all done stop.Syntax (after_close (distinct_reads done) (shown_frames all brackets) (shown_level all w) (shown_atom all a)) (standing.after_close brackets w done a)
 after_close_same all brackets w done None = λ more. refl
 after_close_same all brackets w done (Some a) = λ more. refl
 
 close_same : (all : List Read) (brackets : List (Waits × Opened)) (done : List Read) (e : Expr)
-    → StepIs all done stop.Syntax (close (distinct done) (part_of_expr all e) (split_last (shown_frames all brackets))) (standing.close brackets done e)
+    → StepIs all done stop.Syntax (close (distinct_reads done) (part_of_expr all e) (split_last (shown_frames all brackets))) (standing.close brackets done e)
 close_same all [] done e = λ more. refl
 close_same all (b ∷ brackets) done e =
-    rw (split_behind (shown_frames all brackets) (shown_frame all b), closed_same all b.1 e) (after_close_same all brackets b.0 done (standing.closed b.1 e))
+    rw (split_behind (shown_frames all brackets) (shown_frame all b), closed_same all b.1 e) (after_close_same all brackets b.0 done (standing.closed_atom b.1 e))
 
 after_comma_same : (all : List Read) (brackets : List (Waits × Opened)) (w : Waits) (done : List Read) (o : Option Opened)
-    → StepIs all done stop.Syntax (after_comma (distinct done) (shown_frames all brackets) (shown_level all w) (shown_continued all o)) (standing.after_comma brackets w done o)
+    → StepIs all done stop.Syntax (after_comma (distinct_reads done) (shown_frames all brackets) (shown_level all w) (shown_next all o)) (standing.after_comma brackets w done o)
 after_comma_same all brackets w done None = λ more. refl
 after_comma_same all brackets w done (Some o) = λ more. refl
 
 comma_same : (all : List Read) (brackets : List (Waits × Opened)) (done : List Read) (e : Expr)
-    → StepIs all done stop.Syntax (comma (distinct done) (part_of_expr all e) (split_last (shown_frames all brackets))) (standing.comma brackets done e)
+    → StepIs all done stop.Syntax (comma (distinct_reads done) (part_of_expr all e) (split_last (shown_frames all brackets))) (standing.comma brackets done e)
 comma_same all [] done e = λ more. refl
 comma_same all (b ∷ brackets) done e =
-    rw (split_behind (shown_frames all brackets) (shown_frame all b), continued_same all b.1 e) (after_comma_same all brackets b.0 done (standing.continued b.1 e))
+    rw (split_behind (shown_frames all brackets) (shown_frame all b), next_same all b.1 e) (after_comma_same all brackets b.0 done (standing.next_opened b.1 e))
 
 behind_same : (all : List Read) (brackets : List (Waits × Opened)) (w : Waits) (done : List Read) (a : Atom) (t : Token)
-    → StepIs all done stop.Syntax (behind (distinct done) (shown_frames all brackets) (shown_level all w) (part_of_atom all a) t) (at_behind brackets w done a t)
-behind_same all brackets w done a (token.Sum sign) = λ more. ap (behind_sum (distinct done) (shown_frames all brackets) sign) (expr_same all w a)
-behind_same all brackets w done a (token.Product sign) = λ more. ap (behind_product (distinct done) (shown_frames all brackets) (shown_level all w) sign) (term_same all w a)
+    → StepIs all done stop.Syntax (behind (distinct_reads done) (shown_frames all brackets) (shown_level all w) (part_of_atom all a) t) (at_behind brackets w done a t)
+behind_same all brackets w done a (token.Sum sign) = λ more. ap (behind_sum (distinct_reads done) (shown_frames all brackets) sign) (expr_same all w a)
+behind_same all brackets w done a (token.Product sign) = λ more. ap (behind_product (distinct_reads done) (shown_frames all brackets) (shown_level all w) sign) (term_same all w a)
 behind_same all brackets w done a token.Close = rw (expr_same all w a) (close_same all brackets done (standing.expr_at w a))
 behind_same all brackets w done a token.Comma = rw (expr_same all w a) (comma_same all brackets done (standing.expr_at w a))
 behind_same all brackets w done a t = λ more. refl
@@ -92,7 +92,7 @@ after_close_keeps brackets w done (Some a) = refl
 
 close_keeps : (brackets : List (Waits × Opened)) (done : List Read) (e : Expr) → Keeps done (standing.close brackets done e)
 close_keeps [] done e = tt
-close_keeps (b ∷ brackets) done e = after_close_keeps brackets b.0 done (standing.closed b.1 e)
+close_keeps (b ∷ brackets) done e = after_close_keeps brackets b.0 done (standing.closed_atom b.1 e)
 
 after_comma_keeps : (brackets : List (Waits × Opened)) (w : Waits) (done : List Read) (o : Option Opened) → Keeps done (standing.after_comma brackets w done o)
 after_comma_keeps brackets w done None = tt
@@ -100,7 +100,7 @@ after_comma_keeps brackets w done (Some o) = refl
 
 comma_keeps : (brackets : List (Waits × Opened)) (done : List Read) (e : Expr) → Keeps done (standing.comma brackets done e)
 comma_keeps [] done e = tt
-comma_keeps (b ∷ brackets) done e = after_comma_keeps brackets b.0 done (standing.continued b.1 e)
+comma_keeps (b ∷ brackets) done e = after_comma_keeps brackets b.0 done (standing.next_opened b.1 e)
 
 pub behind_keeps : (brackets : List (Waits × Opened)) (w : Waits) (done : List Read) (a : Atom) (t : Token) → Keeps done (at_behind brackets w done a t)
 behind_keeps brackets w done a (token.Sum sign) = refl
@@ -111,31 +111,31 @@ behind_keeps brackets w done a t = tt
 
 -- a result that is the same once all reads are at hand
 instead : (all done : List Read) (stopping : Stop) (result other : Result At Stop) (o : Option Standing)
-    → (Extends all (distinct done) → other ≡ result) → Keeps done o → StepIs all done stopping result o → StepIs all done stopping other o
+    → (Extends all (distinct_reads done) → other ≡ result) → Keeps done o → StepIs all done stopping result o → StepIs all done stopping other o
 instead all done stopping result other None same keeps is = λ more. same more ∙ is more
 instead all done stopping result other (Some next) same keeps is =
-    λ more. same (subst (λ (reads : List Read). Extends all (distinct reads)) keeps more) ∙ is more
+    λ more. same (subst (λ (reads : List Read). Extends all (distinct_reads reads)) keeps more) ∙ is more
 
 -- the number of a read that was noted last
-pub last_input : (all done : List Read) (r : Read) → Extends all (distinct (done ++ r ∷ [])) → leaf (input_of (distinct done) r) ≡ leaf (input_of all r)
-last_input all done r more = ap leaf (input_same all (distinct done) r (subst (Extends all) (distinct_snoc done r) more))
+pub last_input : (all done : List Read) (r : Read) → Extends all (distinct_reads (done ++ r ∷ [])) → leaf (input_of (distinct_reads done) r) ≡ leaf (input_of all r)
+last_input all done r more = ap leaf (input_same all (distinct_reads done) r (subst (Extends all) (distinct_snoc done r) more))
 
 abbrev settled_done : List Read → ℕ → List Read
 settled_done done k = done ++ here k ∷ []
 
 field_same : (all : List Read) (brackets : List (Waits × Opened)) (w : Waits) (done : List Read) (k : ℕ) (t : Token)
-    → StepIs all (settled_done done k) stop.Syntax (behind (noted (distinct done) (here k)) (shown_frames all brackets) (shown_level all w) (leaf (input_of (distinct done) (here k))) t) (at_behind brackets w (settled_done done k) (field k) t)
+    → StepIs all (settled_done done k) stop.Syntax (behind (with_read (distinct_reads done) (here k)) (shown_frames all brackets) (shown_level all w) (leaf (input_of (distinct_reads done) (here k))) t) (at_behind brackets w (settled_done done k) (field k) t)
 field_same all brackets w done k t =
     instead all (settled_done done k) stop.Syntax
-    (behind (distinct (settled_done done k)) (shown_frames all brackets) (shown_level all w) (part_of_atom all (field k)) t)
-    (behind (noted (distinct done) (here k)) (shown_frames all brackets) (shown_level all w) (leaf (input_of (distinct done) (here k))) t)
+    (behind (distinct_reads (settled_done done k)) (shown_frames all brackets) (shown_level all w) (part_of_atom all (field k)) t)
+    (behind (with_read (distinct_reads done) (here k)) (shown_frames all brackets) (shown_level all w) (leaf (input_of (distinct_reads done) (here k))) t)
     (at_behind brackets w (settled_done done k) (field k) t)
     (λ more. λ i. behind (sym (distinct_snoc done (here k)) i) (shown_frames all brackets) (shown_level all w) (last_input all done (here k) more i) t)
     (behind_keeps brackets w (settled_done done k) (field k) t)
     (behind_same all brackets w (settled_done done k) (field k) t)
 
 named_same : (all : List Read) (brackets : List (Waits × Opened)) (w : Waits) (done : List Read) (k : ℕ) (t : Token)
-    → StepIs all (settled_done done k) stop.Syntax (step_by (distinct done) (shown_frames all brackets) (shown_level all w) (mode.Named k) t) (at_named brackets w done k t)
+    → StepIs all (settled_done done k) stop.Syntax (step_by (distinct_reads done) (shown_frames all brackets) (shown_level all w) (mode.Named k) t) (at_named brackets w done k t)
 named_same all brackets w done k token.OpenBracket = λ more. refl
 named_same all brackets w done k t = field_same all brackets w done k t
 
@@ -145,12 +145,12 @@ abbrev noted_behind : List Frame → Level → Part → List Read → Result At 
 noted_behind frames level part reads = Ok (reads, state frames level (mode.Behind part))
 
 -- behind a read
-read_same : (all : List Read) (frames : List Frame) (level : Level) (done : List Read) (r : Read) → Extends all (distinct (done ++ r ∷ []))
-    → noted_behind frames level (leaf (input_of (distinct done) r)) (noted (distinct done) r) ≡ noted_behind frames level (leaf (input_of all r)) (distinct (done ++ r ∷ []))
+read_same : (all : List Read) (frames : List Frame) (level : Level) (done : List Read) (r : Read) → Extends all (distinct_reads (done ++ r ∷ []))
+    → noted_behind frames level (leaf (input_of (distinct_reads done) r)) (with_read (distinct_reads done) r) ≡ noted_behind frames level (leaf (input_of all r)) (distinct_reads (done ++ r ∷ []))
 read_same all frames level done r more = λ i. noted_behind frames level (last_input all done r more i) (sym (distinct_snoc done r) i)
 
 wanted_same : (all : List Read) (brackets : List (Waits × Opened)) (w : Waits) (done : List Read) (t : Token)
-    → StepIs all done (kind_of wanted t) (step_by (distinct done) (shown_frames all brackets) (shown_level all w) mode.Wanted t) (at_wanted brackets w done t)
+    → StepIs all done (kind_of wanted t) (step_by (distinct_reads done) (shown_frames all brackets) (shown_level all w) mode.Wanted t) (at_wanted brackets w done t)
 wanted_same all brackets w done (token.Sum Less) = λ more. refl
 wanted_same all brackets w done token.Open = λ more. refl
 wanted_same all brackets w done (token.Function f) = λ more. refl
@@ -164,15 +164,15 @@ abbrev opened_as : List Read → List Frame → Level → Opening → Result At 
 opened_as reads frames level opening = Ok (reads, opened frames level opening)
 
 called_same : (all : List Read) (brackets : List (Waits × Opened)) (w : Waits) (done : List Read) (f : Function) (t : Token)
-    → StepIs all done stop.Syntax (step_by (distinct done) (shown_frames all brackets) (shown_level all w) (mode.Called f) t) (at_called brackets w done f t)
-called_same all brackets w done f token.Open = λ more. ap (opened_as (distinct done) (shown_frames all brackets) (shown_level all w)) (opening_same all f)
+    → StepIs all done stop.Syntax (step_by (distinct_reads done) (shown_frames all brackets) (shown_level all w) (mode.Called f) t) (at_called brackets w done f t)
+called_same all brackets w done f token.Open = λ more. ap (opened_as (distinct_reads done) (shown_frames all brackets) (shown_level all w)) (opening_same all f)
 called_same all brackets w done f t = λ more. refl
 
 too_far : (n : ℕ) → leb (suc (suc (suc n))) 2 ≡ false
 too_far n = lt-leb (suc (suc (suc n))) 2 (omega arith)
 
 column_digit_same : (all : List Read) (brackets : List (Waits × Opened)) (w : Waits) (done : List Read) (k : ℕ) (minus : Bool) (d : ℕ)
-    → StepIs all done (stop.FarNeighbour minus) (step_by (distinct done) (shown_frames all brackets) (shown_level all w) (mode.Column k minus) (token.Digit d)) (at_column brackets w done k minus (token.Digit d))
+    → StepIs all done (stop.FarNeighbour minus) (step_by (distinct_reads done) (shown_frames all brackets) (shown_level all w) (mode.Column k minus) (token.Digit d)) (at_column brackets w done k minus (token.Digit d))
 column_digit_same all brackets w done k true zero = λ more. refl
 column_digit_same all brackets w done k false zero = λ more. refl
 column_digit_same all brackets w done k true (suc zero) = λ more. refl
@@ -182,18 +182,18 @@ column_digit_same all brackets w done k false (suc (suc zero)) = λ more. refl
 column_digit_same all brackets w done k minus (suc (suc (suc n))) = λ more. rw (too_far n) refl
 
 column_same : (all : List Read) (brackets : List (Waits × Opened)) (w : Waits) (done : List Read) (k : ℕ) (minus : Bool) (t : Token)
-    → StepIs all done (kind_of (column k minus) t) (step_by (distinct done) (shown_frames all brackets) (shown_level all w) (mode.Column k minus) t) (at_column brackets w done k minus t)
+    → StepIs all done (kind_of (column k minus) t) (step_by (distinct_reads done) (shown_frames all brackets) (shown_level all w) (mode.Column k minus) t) (at_column brackets w done k minus t)
 column_same all brackets w done k minus (token.Digit d) = column_digit_same all brackets w done k minus d
 column_same all brackets w done k false (token.Sum Less) = λ more. refl
 column_same all brackets w done k minus t = λ more. refl
 
 between_same : (all : List Read) (brackets : List (Waits × Opened)) (w : Waits) (done : List Read) (k : ℕ) (x : Offset) (t : Token)
-    → StepIs all done stop.Syntax (step_by (distinct done) (shown_frames all brackets) (shown_level all w) (mode.Between k (shift x)) t) (at_between brackets w done k x t)
+    → StepIs all done stop.Syntax (step_by (distinct_reads done) (shown_frames all brackets) (shown_level all w) (mode.Between k (offset_number x)) t) (at_between brackets w done k x t)
 between_same all brackets w done k x token.Comma = λ more. refl
 between_same all brackets w done k x t = λ more. refl
 
 row_digit_same : (all : List Read) (brackets : List (Waits × Opened)) (w : Waits) (done : List Read) (k : ℕ) (x : Offset) (minus : Bool) (d : ℕ)
-    → StepIs all done (stop.FarNeighbour minus) (step_by (distinct done) (shown_frames all brackets) (shown_level all w) (mode.Row k (shift x) minus) (token.Digit d)) (at_row brackets w done k x minus (token.Digit d))
+    → StepIs all done (stop.FarNeighbour minus) (step_by (distinct_reads done) (shown_frames all brackets) (shown_level all w) (mode.Row k (offset_number x) minus) (token.Digit d)) (at_row brackets w done k x minus (token.Digit d))
 row_digit_same all brackets w done k x true zero = λ more. refl
 row_digit_same all brackets w done k x false zero = λ more. refl
 row_digit_same all brackets w done k x true (suc zero) = λ more. refl
@@ -203,18 +203,18 @@ row_digit_same all brackets w done k x false (suc (suc zero)) = λ more. refl
 row_digit_same all brackets w done k x minus (suc (suc (suc n))) = λ more. rw (too_far n) refl
 
 row_same : (all : List Read) (brackets : List (Waits × Opened)) (w : Waits) (done : List Read) (k : ℕ) (x : Offset) (minus : Bool) (t : Token)
-    → StepIs all done (kind_of (row k x minus) t) (step_by (distinct done) (shown_frames all brackets) (shown_level all w) (mode.Row k (shift x) minus) t) (at_row brackets w done k x minus t)
+    → StepIs all done (kind_of (row k x minus) t) (step_by (distinct_reads done) (shown_frames all brackets) (shown_level all w) (mode.Row k (offset_number x) minus) t) (at_row brackets w done k x minus t)
 row_same all brackets w done k x minus (token.Digit d) = row_digit_same all brackets w done k x minus d
 row_same all brackets w done k x false (token.Sum Less) = λ more. refl
 row_same all brackets w done k x minus t = λ more. refl
 
 ending_same : (all : List Read) (brackets : List (Waits × Opened)) (w : Waits) (done : List Read) (k : ℕ) (x y : Offset) (t : Token)
-    → StepIs all done stop.Syntax (step_by (distinct done) (shown_frames all brackets) (shown_level all w) (mode.Ending k (shift x) (shift y)) t) (at_ending brackets w done k x y t)
-ending_same all brackets w done k x y token.CloseBracket = λ more. read_same all (shown_frames all brackets) (shown_level all w) done (read_at (names.Field k) (shift x) (shift y)) more
+    → StepIs all done stop.Syntax (step_by (distinct_reads done) (shown_frames all brackets) (shown_level all w) (mode.Ending k (offset_number x) (offset_number y)) t) (at_ending brackets w done k x y t)
+ending_same all brackets w done k x y token.CloseBracket = λ more. read_same all (shown_frames all brackets) (shown_level all w) done (read_at (names.Field k) (offset_number x) (offset_number y)) more
 ending_same all brackets w done k x y t = λ more. refl
 
 step_same_by : (all : List Read) (brackets : List (Waits × Opened)) (w : Waits) (done : List Read) (p : Place) (t : Token)
-    → StepIs all (settled_by brackets w done p).done (kind_of p t) (step_by (distinct done) (shown_frames all brackets) (shown_level all w) (shown_mode all p) t) (advance_by brackets w done p t)
+    → StepIs all (settled_by brackets w done p).done (kind_of p t) (step_by (distinct_reads done) (shown_frames all brackets) (shown_level all w) (shown_mode all p) t) (advance_by brackets w done p t)
 step_same_by all brackets w done wanted t = wanted_same all brackets w done t
 step_same_by all brackets w done (called f) t = called_same all brackets w done f t
 step_same_by all brackets w done (named k) t = named_same all brackets w done k t
@@ -225,5 +225,5 @@ step_same_by all brackets w done (ending k x y) t = ending_same all brackets w d
 step_same_by all brackets w done (behind_atom a) t = behind_same all brackets w done a t
 
 -- one step
-pub step_same : (all : List Read) (s : Standing) (t : Token) → StepIs all (settled s).done (kind_of s.place t) (step (distinct s.done) (shown all s) t) (advance s t)
+pub step_same : (all : List Read) (s : Standing) (t : Token) → StepIs all (settled s).done (kind_of s.place t) (step (distinct_reads s.done) (shown all s) t) (advance s t)
 step_same all s t = step_same_by all s.brackets s.waits s.done s.place t

@@ -2,9 +2,9 @@
 use Rattle.std.proofs.Common.{◌≡◌, ℕ, zero, suc, pred, ◌+◌, ◌-◌, ◌<◌, true, false, List, [], ◌∷◌, length, get_or, take, drop, Ok, Err, refl, ap, ◌∙◌, sym, arith, add-one}
 use Rattle.std.proofs.lemmas.List.{drop-drop, length-drop, take_all}
 use Rattle.cpl_base.specs.Words.{is_blank}
-use Rattle.cpl_formula.specs.Steps.{At, located, step, walk}
+use Rattle.cpl_formula.specs.Steps.{At, fault_at, step, walk}
 use Rattle.cpl_formula.specs.Tokens.{first_token, token_length, tokens_from}
-use Rattle.cpl_formula.specs.declared.stop.Stop.{Stop}
+use Rattle.cpl_formula.specs.declared.fault.Stop.{Stop}
 use Rattle.cpl_formula.specs.declared.tokens.Token.{Token}
 
 -- bytes of a token that was taken are passed over
@@ -34,7 +34,7 @@ over_token fields alarms before at reached next (c ∷ more) some token long goe
     rw (token, goes) (ap (walk at next) (behind_first fields alarms at (token_length (c ∷ more)) c more long))
 
 -- reading stops at a token with which none does
-pub at_fault : (fields alarms : List (List ℕ)) (before at : ℕ) (reached : At) (stop : Stop) (text : List ℕ) → 0 < length text → is_blank (get_or text 0 0) ≡ false → step reached.0 reached.1 (first_token fields alarms text) ≡ Err stop → walk before reached (tokens_from fields alarms at 0 text) ≡ Err (located stop before at)
+pub at_fault : (fields alarms : List (List ℕ)) (before at : ℕ) (reached : At) (stop : Stop) (text : List ℕ) → 0 < length text → is_blank (get_or text 0 0) ≡ false → step reached.0 reached.1 (first_token fields alarms text) ≡ Err stop → walk before reached (tokens_from fields alarms at 0 text) ≡ Err (fault_at stop before at)
 at_fault fields alarms before at reached stop [] some token stops = absurd (omega arith)
 at_fault fields alarms before at reached stop (c ∷ more) some token stops = rw (token, stops) refl
 

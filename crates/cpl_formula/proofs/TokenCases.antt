@@ -2,7 +2,7 @@
 use Rattle.std.proofs.Common.{◌≡◌, ℕ, List, refl}
 use Rattle.cpl_formula.specs.Grammar.{input_of}
 use Rattle.cpl_formula.specs.Levels.{here}
-use Rattle.cpl_formula.specs.Reads.{noted}
+use Rattle.cpl_formula.specs.Reads.{with_read}
 use Rattle.cpl_formula.specs.Steps.{behind, leaf, named}
 use Rattle.cpl_formula.specs.declared.formula.Read.{Read}
 use Rattle.cpl_formula.specs.declared.state.Frame.{Frame}
@@ -10,6 +10,6 @@ use Rattle.cpl_formula.specs.declared.state.Level.{Level}
 use Rattle.cpl_formula.specs.declared.tokens.Token.{Token}
 use Rattle.cpl_formula.specs.declared.tokens.Token.TheVariants.{OpenBracket}
 
-pub unbracketed : (reads : List Read) (frames : List Frame) (level : Level) (k : ℕ) (t : Token) → (t ≡ OpenBracket → ⊥) → named reads frames level k t ≡ behind (noted reads (here k)) frames level (leaf (input_of reads (here k))) t
+pub unbracketed : (reads : List Read) (frames : List Frame) (level : Level) (k : ℕ) (t : Token) → (t ≡ OpenBracket → ⊥) → named reads frames level k t ≡ behind (with_read reads (here k)) frames level (leaf (input_of reads (here k))) t
 unbracketed reads frames level k OpenBracket differs = absurd (differs refl)
 unbracketed reads frames level k t differs = refl

@@ -1,52 +1,41 @@
--- The levels that the code makes, as functions of trees; and what its steps answer.
+-- The code's own steps, continued: the levels that it makes, as functions of trees, and what each step answers.
 use Rattle.std.specs.Prelude.{◌≡◌, ℕ, pos, List, Result, Ok, Err}
+use Rattle.cpl_formula.specs.Functions.{tree_of_binary, tree_of_unary}
+use Rattle.cpl_formula.specs.Grammar.{tree_of_product, tree_of_sum}
 use Rattle.cpl_formula.specs.Reads.{read_at}
 use Rattle.cpl_formula.specs.Steps.{At, behind_read}
 use Rattle.cpl_formula.specs.declared.formula.Formula.{Formula, roll-Formula}
 use Rattle.cpl_formula.specs.declared.formula.Formula.TheOpen as tree
-use Rattle.cpl_formula.specs.declared.formula.FormulaFault.{FormulaFault}
-use Rattle.cpl_formula.specs.declared.formula.FormulaFault.TheVariants as faults
+use Rattle.cpl_formula.specs.declared.fault.FormulaFault.{FormulaFault}
+use Rattle.cpl_formula.specs.declared.fault.FormulaFault.TheVariants as faults
+use Rattle.cpl_formula.specs.declared.formula.Parsed.{Parsed}
 use Rattle.cpl_formula.specs.declared.formula.Read.{Read}
 use Rattle.cpl_formula.specs.declared.formula.ReadName.TheVariants as names
 use Rattle.cpl_formula.specs.declared.parts.Wrap.{Wrap}
-use Rattle.cpl_formula.specs.declared.parts.Wrap.TheVariants.{Brackets, Minus, Abs}
+use Rattle.cpl_formula.specs.declared.parts.Wrap.TheVariants.{Brackets, Minus}
+use Rattle.cpl_formula.specs.declared.parts.Wrap.TheVariants as wrap
 use Rattle.cpl_formula.specs.declared.parts.Join.{Join}
-use Rattle.cpl_formula.specs.declared.parts.Join.TheVariants.{Plus, Less, Times, Over, Min, Max}
+use Rattle.cpl_formula.specs.declared.parts.Join.TheVariants.{Sum, Product}
+use Rattle.cpl_formula.specs.declared.parts.Join.TheVariants as join
 use Rattle.cpl_formula.specs.declared.state.Frame.{Frame}
 use Rattle.cpl_formula.specs.declared.state.Level.{Level}
 use Rattle.cpl_formula.specs.declared.state.State.{State}
-use Rattle.cpl_formula.specs.declared.stop.Stop.{Stop}
-use Rattle.cpl_formula.specs.declared.stop.Stop.TheVariants as stop
-use Rattle.cpl_formula.specs.declared.tokens.ProductSign.{ProductSign}
-use Rattle.cpl_formula.specs.declared.tokens.ProductSign.TheVariants as products
-use Rattle.cpl_formula.specs.declared.tokens.SumSign.{SumSign}
+use Rattle.cpl_formula.specs.declared.fault.Stop.{Stop}
+use Rattle.cpl_formula.specs.declared.fault.Stop.TheVariants as stop
 use Rattle.cpl_formula.specs.declared.tokens.Token.{Token}
 use Rattle.cpl_formula.specs.declared.tokens.Token.TheVariants as token
-use Rattle.cpl_formula.specs.declared.tokens.SumSign.TheVariants as sums
 
 -- a level around a tree; brackets leave none
-abbrev pub made_one : Wrap → Formula → Formula
-made_one Brackets t = t
-made_one Minus t = roll-Formula (tree.Minus t)
-made_one Abs t = roll-Formula (tree.Abs t)
+abbrev pub tree_around : Wrap → Formula → Formula
+tree_around Brackets t = t
+tree_around Minus t = roll-Formula (tree.Minus t)
+tree_around (wrap.Call f) t = tree_of_unary f t
 
 -- a level around two trees
-abbrev pub made_two : Join → Formula → Formula → Formula
-made_two Plus a b = roll-Formula (tree.Plus a b)
-made_two Less a b = roll-Formula (tree.Less a b)
-made_two Times a b = roll-Formula (tree.Times a b)
-made_two Over a b = roll-Formula (tree.Over a b)
-made_two Min a b = roll-Formula (tree.Min a b)
-made_two Max a b = roll-Formula (tree.Max a b)
-
--- what a sign joins
-abbrev pub sum_join : SumSign → Join
-sum_join sums.Plus = Plus
-sum_join sums.Less = Less
-
-abbrev pub product_join : ProductSign → Join
-product_join products.Times = Times
-product_join products.Over = Over
+abbrev pub tree_joined : Join → Formula → Formula → Formula
+tree_joined (Sum sign) a b = tree_of_sum sign a b
+tree_joined (Product sign) a b = tree_of_product sign a b
+tree_joined (join.Call f) a b = tree_of_binary f a b
 
 -- What a step of the code answered, with the reads behind it, is what the definition gives, unless memory ran out.
 abbrev pub StepGives : Result State Stop → List Read → Result At Stop → Type 0
@@ -59,6 +48,12 @@ abbrev pub WalkGives : Result State FormulaFault → List Read → Result At For
 WalkGives (Ok s) reads given = given ≡ Ok (reads, s)
 WalkGives (Err faults.Memory) reads given = Unit {0}
 WalkGives (Err e) reads given = given ≡ Err e
+
+-- The same of a whole text.
+abbrev pub TextGives : Result Parsed FormulaFault → Result Parsed FormulaFault → Type 0
+TextGives (Ok p) given = given ≡ Ok p
+TextGives (Err faults.Memory) given = Unit {0}
+TextGives (Err e) given = given ≡ Err e
 
 -- a field at the cell itself
 abbrev pub here : ℕ → Read

@@ -1,8 +1,10 @@
+pub mod Arguments
+pub mod Examples
 pub mod Formulas
+pub mod Functions
 pub mod Grammar
 pub mod Levels
 pub mod Reads
-pub mod Rows
 pub mod Steps
 pub mod Tangles
 pub mod Tokens

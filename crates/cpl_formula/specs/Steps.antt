@@ -1,32 +1,34 @@
--- Reading one token after another, as the code does: what has been read, and what may come next.
-use Rattle.std.specs.Prelude.{◌≡◌, ℕ, zero, suc, ℤ, pos, ◌+◌, ◌*◌, max, Bool, true, false, if◌then◌else◌, nat_le, nat_lt, List, [], ◌∷◌, ◌++◌, length, Option, Some, None, Result, Ok, Err}
+-- The code's own steps: reading one token after another, with what has been read and what may come next. What `parse`
+-- promises is said without them (`Formulas`); that `parsed_of` gives each text its outcome is a law (`grammar_laws`).
+use Rattle.std.specs.Prelude.{ℕ, zero, suc, ℤ, pos, ◌+◌, ◌*◌, max, Bool, true, false, if◌then◌else◌, nat_le, nat_lt, List, [], ◌∷◌, ◌++◌, length, Option, Some, None, Result, Ok, Err}
 use Rattle.cpl_base.specs.Numbers.{million}
 use Rattle.cpl_base.specs.Numerals.{signed}
-use Rattle.cpl_formula.specs.Grammar.{summed, multiplied, input_of}
-use Rattle.cpl_formula.specs.Reads.{noted, read_at}
+use Rattle.cpl_formula.specs.Functions.{tree_of_binary, tree_of_ternary, tree_of_unary}
+use Rattle.cpl_formula.specs.Grammar.{tree_of_sum, tree_of_product, input_of}
+use Rattle.cpl_formula.specs.Reads.{with_read, read_at}
 use Rattle.cpl_formula.specs.Tokens.{Placed, is_tangled, tokens_of}
 use Rattle.cpl_formula.specs.declared.formula.Formula.{Formula, roll-Formula}
 use Rattle.cpl_formula.specs.declared.formula.Formula.TheOpen as tree
-use Rattle.cpl_formula.specs.declared.formula.FormulaFault.{FormulaFault}
-use Rattle.cpl_formula.specs.declared.formula.FormulaFault.TheVariants as faults
+use Rattle.cpl_formula.specs.declared.fault.FormulaFault.{FormulaFault}
+use Rattle.cpl_formula.specs.declared.fault.FormulaFault.TheVariants as faults
 use Rattle.cpl_formula.specs.declared.formula.Parsed.{Parsed}
 use Rattle.cpl_formula.specs.declared.formula.Read.{Read}
 use Rattle.cpl_formula.specs.declared.formula.ReadName.TheVariants as names
+use Rattle.cpl_formula.specs.declared.functions.Function.{Function}
+use Rattle.cpl_formula.specs.declared.functions.Function.TheVariants as function
 use Rattle.cpl_formula.specs.declared.state.Frame.{Frame}
 use Rattle.cpl_formula.specs.declared.state.Level.{Level}
 use Rattle.cpl_formula.specs.declared.state.Mode.{Mode}
 use Rattle.cpl_formula.specs.declared.state.Mode.TheVariants.{Wanted, Called, Named, Column, Between, Row, Ending, Behind}
 use Rattle.cpl_formula.specs.declared.state.Opening.{Opening}
-use Rattle.cpl_formula.specs.declared.state.Opening.TheVariants.{Group, Abs, Min, MinOf, Max, MaxOf, Select, SelectIf, SelectOr}
+use Rattle.cpl_formula.specs.declared.state.Opening.TheVariants.{Group, OnlyOf, FirstOfTwo, SecondOfTwo, FirstOfThree, SecondOfThree, ThirdOfThree}
 use Rattle.cpl_formula.specs.declared.state.Part.{Part}
 use Rattle.cpl_formula.specs.declared.state.Part.TheVariants.{Kept, Deep}
 use Rattle.cpl_formula.specs.declared.state.Product.{Product}
 use Rattle.cpl_formula.specs.declared.state.State.{State}
 use Rattle.cpl_formula.specs.declared.state.Sum.{Sum}
-use Rattle.cpl_formula.specs.declared.stop.Stop.{Stop}
-use Rattle.cpl_formula.specs.declared.stop.Stop.TheVariants as stop
-use Rattle.cpl_formula.specs.declared.tokens.Function.{Function}
-use Rattle.cpl_formula.specs.declared.tokens.Function.TheVariants as function
+use Rattle.cpl_formula.specs.declared.fault.Stop.{Stop}
+use Rattle.cpl_formula.specs.declared.fault.Stop.TheVariants as stop
 use Rattle.cpl_formula.specs.declared.tokens.SumSign.TheVariants.{Less}
 use Rattle.cpl_formula.specs.declared.tokens.Token.{Token}
 use Rattle.cpl_formula.specs.declared.tokens.Token.TheVariants as token
@@ -53,12 +55,12 @@ joined make (Kept a m) Deep = Deep
 joined make (Kept a m) (Kept b n) = if nat_lt (max m n) most then Kept (make a b) (max m n + 1) else Deep
 
 -- a level around three parts
-abbrev pub chosen : Part → Part → Part → Part
-chosen Deep a b = Deep
-chosen (Kept c l) Deep b = Deep
-chosen (Kept c l) (Kept a m) Deep = Deep
-chosen (Kept c l) (Kept a m) (Kept b n) =
-    if nat_lt (max l (max m n)) most then Kept (roll-Formula (tree.Select c a b)) (max l (max m n) + 1) else Deep
+abbrev pub joined_three : (Formula → Formula → Formula → Formula) → Part → Part → Part → Part
+joined_three make Deep b c = Deep
+joined_three make (Kept a l) Deep c = Deep
+joined_three make (Kept a l) (Kept b m) Deep = Deep
+joined_three make (Kept a l) (Kept b m) (Kept c n) =
+    if nat_lt (max l (max m n)) most then Kept (make a b c) (max l (max m n) + 1) else Deep
 
 -- so many minus signs in front of a part
 abbrev pub negated : ℕ → Part → Part
@@ -78,12 +80,12 @@ fresh = record { sum = None; product = None; minus = 0 }
 -- the product that waits, with its last factor
 abbrev pub with_product : Option Product → Part → Part
 with_product None right = right
-with_product (Some product) right = joined (multiplied product.sign) product.left right
+with_product (Some product) right = joined (tree_of_product product.sign) product.left right
 
 -- the sum that waits, with its last term
 abbrev pub with_sum : Option Sum → Part → Part
 with_sum None right = right
-with_sum (Some sum) right = joined (summed sum.sign) sum.left right
+with_sum (Some sum) right = joined (tree_of_sum sum.sign) sum.left right
 
 -- the term that an operand ends
 abbrev pub term_at : Level → Part → Part
@@ -95,36 +97,26 @@ expr_at level operand = with_sum level.sum (term_at level operand)
 
 -- ---- open brackets
 
--- what a function's `(` will make
+-- what is read behind a function's `(`
 abbrev pub opening_of : Function → Opening
-opening_of function.Abs = Abs
-opening_of function.Min = Min
-opening_of function.Max = Max
-opening_of function.Select = Select
+opening_of (function.Unary f) = OnlyOf f
+opening_of (function.Binary f) = FirstOfTwo f
+opening_of (function.Ternary f) = FirstOfThree f
 
--- what a `)` makes, with its last argument
-abbrev pub closed : Opening → Part → Option Part
-closed Group e = Some (around (λ t. t) e)
-closed Abs e = Some (around (λ t. roll-Formula (tree.Abs t)) e)
-closed (MinOf a) e = Some (joined (λ s t. roll-Formula (tree.Min s t)) a e)
-closed (MaxOf a) e = Some (joined (λ s t. roll-Formula (tree.Max s t)) a e)
-closed (SelectOr c a) e = Some (chosen c a e)
-closed Min e = None
-closed Max e = None
-closed Select e = None
-closed (SelectIf c) e = None
+-- what a `)` makes, with the last argument
+abbrev pub closed_part : Opening → Part → Option Part
+closed_part Group e = Some (around (λ t. t) e)
+closed_part (OnlyOf f) e = Some (around (tree_of_unary f) e)
+closed_part (SecondOfTwo f a) e = Some (joined (tree_of_binary f) a e)
+closed_part (ThirdOfThree f a b) e = Some (joined_three (tree_of_ternary f) a b e)
+closed_part opening e = None
 
--- what a `,` makes, with one more argument
-abbrev pub continued : Opening → Part → Option Opening
-continued Min e = Some (MinOf e)
-continued Max e = Some (MaxOf e)
-continued Select e = Some (SelectIf e)
-continued (SelectIf c) e = Some (SelectOr c e)
-continued Group e = None
-continued Abs e = None
-continued (MinOf a) e = None
-continued (MaxOf a) e = None
-continued (SelectOr c a) e = None
+-- what is read behind a `,`, with one more argument
+abbrev pub next_opening : Opening → Part → Option Opening
+next_opening (FirstOfTwo f) e = Some (SecondOfTwo f e)
+next_opening (FirstOfThree f) e = Some (SecondOfThree f e)
+next_opening (SecondOfThree f a) e = Some (ThirdOfThree f a e)
+next_opening opening e = None
 
 -- one more item in front
 abbrev pub onto_front : {A : Type 0} → A → Option (List A × A) → Option (List A × A)
@@ -152,7 +144,7 @@ opened frames level opening = state (frames ++ record { level = level; opening =
 
 -- behind a read
 abbrev pub behind_read : List Read → List Frame → Level → Read → At
-behind_read reads frames level r = (noted reads r, state frames level (Behind (leaf (input_of reads r))))
+behind_read reads frames level r = (with_read reads r, state frames level (Behind (leaf (input_of reads r))))
 
 -- an operand may stand here
 abbrev pub wanted : List Read → List Frame → Level → Token → Result At Stop
@@ -216,7 +208,7 @@ after_close reads frames level (Some part) = Ok (reads, state frames level (Behi
 -- a `)`
 abbrev pub close : List Read → Part → Option (List Frame × Frame) → Result At Stop
 close reads e None = Err stop.Syntax
-close reads e (Some s) = after_close reads s.0 s.1.level (closed s.1.opening e)
+close reads e (Some s) = after_close reads s.0 s.1.level (closed_part s.1.opening e)
 
 -- behind a `,`
 abbrev pub after_comma : List Read → List Frame → Level → Option Opening → Result At Stop
@@ -226,7 +218,7 @@ after_comma reads frames level (Some opening) = Ok (reads, opened frames level o
 -- a `,`
 abbrev pub comma : List Read → Part → Option (List Frame × Frame) → Result At Stop
 comma reads e None = Err stop.Syntax
-comma reads e (Some s) = after_comma reads s.0 s.1.level (continued s.1.opening e)
+comma reads e (Some s) = after_comma reads s.0 s.1.level (next_opening s.1.opening e)
 
 -- behind an operand
 abbrev pub behind : List Read → List Frame → Level → Part → Token → Result At Stop
@@ -242,7 +234,7 @@ behind reads frames level operand t = Err stop.Syntax
 abbrev pub named : List Read → List Frame → Level → ℕ → Token → Result At Stop
 named reads frames level k token.OpenBracket = Ok (reads, state frames level (Column k false))
 named reads frames level k t =
-    let r = read_at (names.Field k) (pos 0) (pos 0) in behind (noted reads r) frames level (leaf (input_of reads r)) t
+    let r = read_at (names.Field k) (pos 0) (pos 0) in behind (with_read reads r) frames level (leaf (input_of reads r)) t
 
 -- one step, by what the last token was
 abbrev pub step_by : List Read → List Frame → Level → Mode → Token → Result At Stop
@@ -255,6 +247,7 @@ step_by reads frames level (Row k dx minus) t = row reads frames level k dx minu
 step_by reads frames level (Ending k dx dy) t = ending reads frames level k dx dy t
 step_by reads frames level (Behind operand) t = behind reads frames level operand t
 
+-- a token more
 abbrev pub step : List Read → State → Token → Result At Stop
 step reads s t = step_by reads s.frames s.level s.mode t
 
@@ -265,17 +258,17 @@ abbrev pub start : State
 start = state [] fresh Wanted
 
 -- The fault at a token, with the place of the one before it: an offset begins with its minus.
-abbrev pub located : Stop → ℕ → ℕ → FormulaFault
-located stop.Syntax before at = faults.Syntax at
-located stop.BadNumber before at = faults.BadNumber at
-located stop.NameUnknown before at = faults.NameUnknown at
-located (stop.FarNeighbour true) before at = faults.FarNeighbour before
-located (stop.FarNeighbour false) before at = faults.FarNeighbour at
-located stop.Memory before at = faults.Memory
+abbrev pub fault_at : Stop → ℕ → ℕ → FormulaFault
+fault_at stop.Syntax before at = faults.Syntax at
+fault_at stop.BadNumber before at = faults.BadNumber at
+fault_at stop.NameUnknown before at = faults.NameUnknown at
+fault_at (stop.FarNeighbour true) before at = faults.FarNeighbour before
+fault_at (stop.FarNeighbour false) before at = faults.FarNeighbour at
+fault_at stop.Memory before at = faults.Memory
 
 -- goes on behind a token, or stops there
 abbrev pub carry_on : ℕ → ℕ → Result At Stop → (At → Result At FormulaFault) → Result At FormulaFault
-carry_on before at (Err e) rest = Err (located e before at)
+carry_on before at (Err e) rest = Err (fault_at e before at)
 carry_on before at (Ok here) rest = rest here
 
 -- goes over tokens, behind one at the place `before`
@@ -286,7 +279,7 @@ walk before here (t ∷ more) = carry_on before t.at (step here.0 here.1 t.token
 -- the operand at the end of a text, with all reads
 abbrev pub last_operand : List Read → Mode → Option (List Read × Part)
 last_operand reads (Behind operand) = Some (reads, operand)
-last_operand reads (Named k) = let r = read_at (names.Field k) (pos 0) (pos 0) in Some (noted reads r, leaf (input_of reads r))
+last_operand reads (Named k) = let r = read_at (names.Field k) (pos 0) (pos 0) in Some (with_read reads r, leaf (input_of reads r))
 last_operand reads mode = None
 
 -- what was read, unless it is too deep
@@ -310,9 +303,3 @@ unfoldable pub parsed_of : List (List ℕ) → List (List ℕ) → List ℕ → 
 parsed_of fields alarms text =
     if is_tangled text then Err faults.DeepFormula
     else at_end (length text) (walk 0 ([], start) (tokens_of fields alarms text))
-
--- What a step of the code answered, seen by view, is what the definition gives, unless memory ran out.
-abbrev pub Gives : {X Y : Type 0} → (X → Y) → Result X FormulaFault → Result Y FormulaFault → Type 0
-Gives view (Ok x) read = read ≡ Ok (view x)
-Gives view (Err faults.Memory) read = Unit {0}
-Gives view (Err fault) read = read ≡ Err fault

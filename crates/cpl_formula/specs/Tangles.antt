@@ -2,11 +2,11 @@
 use Rattle.std.specs.Prelude.{◌≡◌, ℕ, ◌<◌, ◌⊎◌, ◌==◌, Bool, true, ◌||◌, List, ◌++◌, filter, fold, length}
 use Rattle.std.specs.List.{list_all}
 use Rattle.cpl_base.specs.Words.{is_blank}
-use Rattle.cpl_formula.specs.Tokens.{opened_by}
+use Rattle.cpl_formula.specs.Tokens.{open_after}
 
 -- how many `(` are open at the end of a text
 abbrev pub open_in : List ℕ → ℕ
-open_in text = fold opened_by 0 text
+open_in text = fold open_after 0 text
 
 -- more than 32 `(` are open somewhere in the text
 pub record IsOpenDeep (text : List ℕ) : Type 0 where

@@ -1,28 +1,19 @@
 -- How a text is cut into tokens, each as long as it can be, and what they stand for.
-use Rattle.std.specs.Prelude.{ℕ, zero, suc, pred, ℤ, ◌+◌, ◌-◌, ◌<◌, ◌==◌, Bool, true, false, ◌&&◌, ◌||◌, if◌then◌else◌, nat_le, nat_lt, List, [], ◌∷◌, length, take, drop, take_while, position, codes, Option, Some, None, Result, Ok, Err}
+use Rattle.std.specs.Prelude.{ℕ, zero, suc, pred, ℤ, ◌+◌, ◌-◌, ◌==◌, Bool, true, false, ◌||◌, if◌then◌else◌, nat_lt, List, [], ◌∷◌, length, take, drop, take_while, codes, Option, Some, None, Result, Ok, Err}
 use Rattle.std.specs.Map.{lookup}
 use Rattle.std.specs.Str.{bytes_eq}
-use Rattle.cpl_base.specs.Numbers.{IsValue}
 use Rattle.cpl_base.specs.Numerals.{is_digit, value_of}
-use Rattle.cpl_base.specs.Words.{is_blank}
+use Rattle.cpl_base.specs.Words.{is_blank, is_letter, is_name_byte, place_of, rest_behind}
 use Rattle.cpl_base.specs.declared.value.ValFault.{ValFault}
+use Rattle.cpl_formula.specs.Functions.{functions}
 use Rattle.cpl_formula.specs.declared.formula.ReadName.{ReadName}
 use Rattle.cpl_formula.specs.declared.formula.ReadName.TheVariants as names
-use Rattle.cpl_formula.specs.declared.tokens.Function.{Function}
-use Rattle.cpl_formula.specs.declared.tokens.Function.TheVariants as function
+use Rattle.cpl_formula.specs.declared.functions.Function.{Function}
 use Rattle.cpl_formula.specs.declared.tokens.ProductSign.TheVariants.{Times, Over}
 use Rattle.cpl_formula.specs.declared.tokens.SumSign.TheVariants.{Plus, Less}
 use Rattle.cpl_formula.specs.declared.tokens.Token.{Token}
 use Rattle.cpl_formula.specs.declared.tokens.Token.TheVariants.{Sum, Product, Open, Close, OpenBracket, CloseBracket, Comma, Digit, Number, BadNumber, Field, Quantity, Unknown, Stray}
 use Rattle.cpl_formula.specs.declared.tokens.Token.TheVariants as token
-
--- an ASCII letter
-abbrev pub is_letter : ℕ → Bool
-is_letter c = (nat_le 65 c && nat_le c 90) || (nat_le 97 c && nat_le c 122)
-
--- a letter, a digit or `_`
-abbrev pub is_name_byte : ℕ → Bool
-is_name_byte c = is_letter c || is_digit c || c == 95
 
 -- ---- how long the token at the front of a text is
 
@@ -51,15 +42,15 @@ token_length (c ∷ text) =
 -- ---- what it stands for
 
 -- a number in millionths, where it is a value
-abbrev pub valued : Result ℤ ValFault → Token
-valued (Ok z) = Number z
-valued (Err fault) = BadNumber
+abbrev pub value_token : Result ℤ ValFault → Token
+value_token (Ok z) = Number z
+value_token (Err fault) = BadNumber
 
 -- a number: of one byte, or longer
 abbrev pub number_token : List ℕ → Token
 number_token [] = BadNumber
 number_token (c ∷ []) = Digit (c - 48)
-number_token (c ∷ d ∷ more) = valued (value_of (c ∷ d ∷ more))
+number_token (c ∷ d ∷ more) = value_token (value_of (c ∷ d ∷ more))
 
 -- a token of one byte that is no digit
 abbrev pub sign_token : ℕ → Token
@@ -75,11 +66,6 @@ sign_token c =
     else if c == 44 then Comma
     else Stray
 
--- the functions, by their names
-abbrev pub functions : List (List ℕ × Function)
-functions =
-    (codes "abs", function.Abs) ∷ (codes "min", function.Min) ∷ (codes "max", function.Max) ∷ (codes "sel", function.Select) ∷ []
-
 -- what the cell and the moment give, by their names
 abbrev pub quantities : List (List ℕ × ReadName)
 quantities =
@@ -87,16 +73,6 @@ quantities =
     ∷ (codes "year", names.Year) ∷ (codes "month", names.Month) ∷ (codes "day", names.Day) ∷ (codes "hour", names.Hour)
     ∷ (codes "minute", names.Minute) ∷ (codes "second", names.Second) ∷ (codes "days", names.Days)
     ∷ (codes "daysec", names.DaySecond) ∷ (codes "dt", names.Dt) ∷ []
-
--- what stands in a text behind a beginning, if it begins so
-abbrev pub behind : List ℕ → List ℕ → Option (List ℕ)
-behind [] text = Some text
-behind (c ∷ cs) [] = None
-behind (c ∷ cs) (d ∷ ds) = if c == d then behind cs ds else None
-
--- the place of a name among names
-abbrev pub place_of : List (List ℕ) → List ℕ → Option ℕ
-place_of among name = position (λ other. bytes_eq other name) among
 
 -- an alarm, where the name is `ring_` and that alarm's name
 abbrev pub alarm_of : List (List ℕ) → Option (List ℕ) → Option ℕ
@@ -113,7 +89,7 @@ quantity_token None None = Unknown
 abbrev pub other_token : List (List ℕ) → List ℕ → Bool → Option Function → Token
 other_token alarms name bracketed (Some f) = token.Function f
 other_token alarms name true None = Unknown
-other_token alarms name false None = quantity_token (lookup (bytes_eq name) quantities) (alarm_of alarms (behind (codes "ring_") name))
+other_token alarms name false None = quantity_token (lookup (bytes_eq name) quantities) (alarm_of alarms (rest_behind (codes "ring_") name))
 
 -- a name, with brackets behind it or not
 abbrev pub name_token : List (List ℕ) → List (List ℕ) → List ℕ → Bool → Option ℕ → Token
@@ -132,12 +108,6 @@ token_of fields alarms (c ∷ more) bracketed =
 abbrev pub is_bracketed : List ℕ → Bool
 is_bracketed [] = false
 is_bracketed (c ∷ more) = if is_blank c then is_bracketed more else c == 91
-
--- a digit is below ten, and a longer number is a value
-abbrev pub IsNumberInRange : Token → Type 0
-IsNumberInRange (Digit d) = d < 10
-IsNumberInRange (Number z) = IsValue z
-IsNumberInRange t = Unit {0}
 
 -- ---- a whole text
 
@@ -166,18 +136,19 @@ tokens_of fields alarms text = tokens_from fields alarms 0 0 text
 -- ---- what no text may have anywhere
 
 -- how many `(` are open behind a byte; a `)` that closes nothing changes nothing
-abbrev pub opened_by : ℕ → ℕ → ℕ
-opened_by opened c = if c == 40 then suc opened else if c == 41 then pred opened else opened
+abbrev pub open_after : ℕ → ℕ → ℕ
+open_after opened c = if c == 40 then suc opened else if c == 41 then pred opened else opened
 
 -- how many minus signs stand in a row behind a byte; blanks between them don't count
-abbrev pub row_by : ℕ → ℕ → ℕ
-row_by row c = if c == 45 then suc row else if is_blank c then row else 0
+abbrev pub row_after : ℕ → ℕ → ℕ
+row_after row c = if c == 45 then suc row else if is_blank c then row else 0
 
 -- whether more than 32 `(` are open somewhere, or more than 32 minus signs stand in a row
 abbrev pub is_tangled_from : ℕ → ℕ → List ℕ → Bool
 is_tangled_from opened row [] = false
 is_tangled_from opened row (c ∷ more) =
-    nat_lt 32 (opened_by opened c) || nat_lt 32 (row_by row c) || is_tangled_from (opened_by opened c) (row_by row c) more
+    nat_lt 32 (open_after opened c) || nat_lt 32 (row_after row c) || is_tangled_from (open_after opened c) (row_after row c) more
 
+-- the same of a whole text
 abbrev pub is_tangled : List ℕ → Bool
 is_tangled text = is_tangled_from 0 0 text

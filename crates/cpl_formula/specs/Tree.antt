@@ -8,10 +8,10 @@ use Rattle.cpl_formula.specs.declared.formula.Formula.TheOpen.{Formula-F, Number
 use Rattle.cpl_formula.specs.declared.formula.Formula.TheFolds.{fold-Formula}
 
 -- the first where a condition is above 0, else the second
-abbrev pub selected : ℤ → ℤ → ℤ → ℤ
-selected (pos zero) a b = b
-selected (pos (suc n)) a b = a
-selected (negsuc n) a b = b
+abbrev pub choice_of : ℤ → ℤ → ℤ → ℤ
+choice_of (pos zero) a b = b
+choice_of (pos (suc n)) a b = a
+choice_of (negsuc n) a b = b
 
 -- The value of one level, at the values of its parts and of the inputs: sums and differences are clipped to
 -- the values, products and quotients rounded and clipped.
@@ -26,7 +26,7 @@ value_step inputs (Times a b) = product_of a b
 value_step inputs (Over a b) = quotient_of a b
 value_step inputs (Min a b) = int_min a b
 value_step inputs (Max a b) = int_max a b
-value_step inputs (Select c a b) = selected c a b
+value_step inputs (Select c a b) = choice_of c a b
 
 -- the value of a formula, at the values of its inputs
 abbrev pub value_of : List ℤ → Formula → ℤ

@@ -4,21 +4,25 @@
 //! matter of this crate.
 #![tactic(auto)]
 
+mod arguments;
+mod examples;
+mod fault;
 mod formula;
+mod functions;
 mod laws;
 mod lexing;
 mod parts;
 mod reading;
 mod reads;
-mod rows;
 mod state;
 mod steps;
-mod stop;
 mod tokens;
 mod worth;
 
-pub use formula::{EntrySign, Formula, FormulaFault, Parsed, Read, ReadName};
-pub use laws::grammar_laws;
+pub use arguments::{Argument, read_argument};
+pub use examples::formula_examples;
+pub use fault::FormulaFault;
+pub use formula::{EntrySign, Formula, Parsed, Read, ReadName};
+pub use laws::{grammar_laws, value_laws};
 pub use reading::parse;
-pub use rows::formula_rows;
 pub use worth::value;

@@ -1,11 +1,14 @@
 //! Levels of a formula around parts that have been read, none of them deeper than formulas may be.
 
 ghost use Rattle.std.specs.Prelude.{◌≡◌, IfOk};
-ghost use Rattle.cpl_formula.specs.Steps.{around as around_of, chosen as chosen_of, joined as joined_of, leaf as leaf_of, negated as negated_of, one_more as one_more_of};
-ghost use Rattle.cpl_formula.specs.Levels.{made_one, made_two};
+ghost use Rattle.cpl_formula.specs.Functions.{tree_of_ternary};
+ghost use Rattle.cpl_formula.specs.Steps.{around, joined, joined_three, leaf, negated, one_more};
+ghost use Rattle.cpl_formula.specs.Levels.{tree_around, tree_joined};
 
 use crate::formula::Formula;
+use crate::functions::{Binary, Ternary, Unary};
 use crate::state::Part;
+use crate::tokens::{ProductSign, SumSign};
 use sqlite_items::Boxed;
 use std::alloc::{AllocError, Global};
 
@@ -13,27 +16,24 @@ use std::alloc::{AllocError, Global};
 const MOST: u8 = 32;
 
 /// What stands around one part.
-#[derive(Clone, Copy, Debug)]
+#[derive(Clone, Copy)]
 pub enum Wrap {
     Brackets,
     Minus,
-    Abs,
+    Call(Unary),
 }
 
 /// What joins two parts.
-#[derive(Clone, Copy, Debug)]
+#[derive(Clone, Copy)]
 pub enum Join {
-    Plus,
-    Less,
-    Times,
-    Over,
-    Min,
-    Max,
+    Sum(SumSign),
+    Product(ProductSign),
+    Call(Binary),
 }
 
 /// A part of one level.
 pub fn leaf(alloc: Global, tree: Formula) -> Result<Part, AllocError>
-    ensures { IfOk result (λ made. made ≡ leaf_of tree) }
+    ensures { IfOk result (λ made. made ≡ leaf tree) }
 {
     let tree = Boxed::new(alloc, tree)?;
     Ok(Part::Kept { tree, depth: 1 })
@@ -41,14 +41,14 @@ pub fn leaf(alloc: Global, tree: Formula) -> Result<Part, AllocError>
 
 /// A level around a part.
 pub fn around(alloc: Global, level: Wrap, part: Part) -> Result<Part, AllocError>
-    ensures { IfOk result (λ made. made ≡ around_of (made_one level) part) }
+    ensures { IfOk result (λ made. made ≡ around (tree_around level) part) }
 {
     match part {
         Part::Kept { tree, depth } if depth < MOST => {
             let tree = match level {
                 Wrap::Brackets => tree,
                 Wrap::Minus => Boxed::new(alloc, Formula::Minus(tree))?,
-                Wrap::Abs => Boxed::new(alloc, Formula::Abs(tree))?,
+                Wrap::Call(function) => Boxed::new(alloc, function.tree(tree))?,
             };
             Ok(Part::Kept {
                 tree,
@@ -60,22 +60,21 @@ pub fn around(alloc: Global, level: Wrap, part: Part) -> Result<Part, AllocError
 }
 
 /// Two trees, joined.
-fn join_trees(join: Join, a: Boxed<Formula>, b: Boxed<Formula>) -> Formula
-    ensures { result ≡ made_two join a b }
+fn tree_joined(join: Join, a: Boxed<Formula>, b: Boxed<Formula>) -> Formula
+    ensures { result ≡ tree_joined join a b }
 {
     match join {
-        Join::Plus => Formula::Plus(a, b),
-        Join::Less => Formula::Less(a, b),
-        Join::Times => Formula::Times(a, b),
-        Join::Over => Formula::Over(a, b),
-        Join::Min => Formula::Min(a, b),
-        Join::Max => Formula::Max(a, b),
+        Join::Sum(SumSign::Plus) => Formula::Plus(a, b),
+        Join::Sum(SumSign::Less) => Formula::Less(a, b),
+        Join::Product(ProductSign::Times) => Formula::Times(a, b),
+        Join::Product(ProductSign::Over) => Formula::Over(a, b),
+        Join::Call(function) => function.tree(a, b),
     }
 }
 
 /// A level around two parts.
 pub fn joined(alloc: Global, join: Join, a: Part, b: Part) -> Result<Part, AllocError>
-    ensures { IfOk result (λ made. made ≡ joined_of (made_two join) a b) }
+    ensures { IfOk result (λ made. made ≡ joined (tree_joined join) a b) }
 {
     let (Part::Kept { tree: a, depth: m }, Part::Kept { tree: b, depth: n }) = (a, b) else {
         return Ok(Part::Deep);
@@ -84,33 +83,35 @@ pub fn joined(alloc: Global, join: Join, a: Part, b: Part) -> Result<Part, Alloc
     if deepest >= MOST {
         return Ok(Part::Deep);
     }
-    let tree = Boxed::new(alloc, join_trees(join, a, b))?;
+    let tree = Boxed::new(alloc, tree_joined(join, a, b))?;
     Ok(Part::Kept {
         tree,
         depth: deepest + 1,
     })
 }
 
-/// A choice among two parts by a third.
-pub fn chosen(alloc: Global, condition: Part, a: Part, b: Part) -> Result<Part, AllocError>
-    ensures { IfOk result (λ made. made ≡ chosen_of condition a b) }
+/// A function around three parts.
+pub fn joined_three(
+    alloc: Global,
+    function: Ternary,
+    a: Part,
+    b: Part,
+    c: Part,
+) -> Result<Part, AllocError>
+    ensures { IfOk result (λ made. made ≡ joined_three (tree_of_ternary function) a b c) }
 {
     let (
-        Part::Kept {
-            tree: condition,
-            depth: l,
-        },
-        Part::Kept { tree: a, depth: m },
-        Part::Kept { tree: b, depth: n },
-    ) = (condition, a, b)
-    else {
+        Part::Kept { tree: a, depth: l },
+        Part::Kept { tree: b, depth: m },
+        Part::Kept { tree: c, depth: n },
+    ) = (a, b, c) else {
         return Ok(Part::Deep);
     };
     let deepest = l.max(m.max(n));
     if deepest >= MOST {
         return Ok(Part::Deep);
     }
-    let tree = Boxed::new(alloc, Formula::Select(condition, a, b))?;
+    let tree = Boxed::new(alloc, function.tree(a, b, c))?;
     Ok(Part::Kept {
         tree,
         depth: deepest + 1,
@@ -119,7 +120,7 @@ pub fn chosen(alloc: Global, condition: Part, a: Part, b: Part) -> Result<Part, 
 
 /// So many minus signs in front of a part.
 pub fn negated(alloc: Global, minus: u8, operand: Part) -> Result<Part, AllocError>
-    ensures { IfOk result (λ made. made ≡ negated_of minus operand) }
+    ensures { IfOk result (λ made. made ≡ negated minus operand) }
 {
     let mut part = operand;
     for _ in 0..minus {
@@ -130,7 +131,7 @@ pub fn negated(alloc: Global, minus: u8, operand: Part) -> Result<Part, AllocErr
 
 /// One more minus sign; more than 33 count as 33, since that is too deep already.
 pub fn one_more(minus: u8) -> u8
-    ensures { result ≡ one_more_of minus }
+    ensures { result ≡ one_more minus }
 {
     if minus > MOST { minus } else { minus + 1 }
 }

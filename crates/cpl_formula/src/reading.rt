@@ -1,27 +1,25 @@
 //! Reading the text of a rule: from its bytes to a tree and its reads, or to its first fault.
 
-ghost use Rattle.std.specs.Prelude.{◌≡◌, ◌<◌, ◌^◌, [], length, option_map, IfOk, IfErr, IsTrue, Result};
-ghost use Rattle.cpl_formula.specs.Formulas.{OutcomeOf};
-ghost use Rattle.cpl_formula.specs.Levels.{WalkGives};
-ghost use Rattle.cpl_formula.specs.Steps.{Gives, finished as finished_of, last_operand as last_operand_of, located as located_of, parsed_of, start as start_of, walk as walk_of};
+ghost use Rattle.std.specs.Prelude.{◌≡◌, ◌<◌, ◌^◌, [], length, option_map, IfOk, IfErr, IsTrue};
+ghost use Rattle.cpl_formula.specs.Formulas.{IsAnswer};
+ghost use Rattle.cpl_formula.specs.Levels.{TextGives, WalkGives};
+ghost use Rattle.cpl_formula.specs.Reads.{AreReads};
+ghost use Rattle.cpl_formula.specs.Steps.{finished, last_operand, fault_at, parsed_of, start, walk};
 ghost use Rattle.cpl_formula.specs.Tokens.{tokens_of};
 ghost use Rattle.cpl_formula.specs.Tree.{is_over};
-ghost use Rattle.cpl_formula.specs.declared.formula.FormulaFault.{FormulaFault as Fault};
-ghost use Rattle.cpl_formula.specs.declared.formula.FormulaFault.TheVariants.{Memory as OutOfMemory};
-ghost use Rattle.cpl_formula.specs.declared.formula.Parsed.{Parsed as ParsedValue};
 
-use crate::formula::{FormulaFault, Parsed, Read};
-use crate::lexing::{first_token, is_blank, is_tangled};
+use crate::fault::{FormulaFault, Stop};
+use crate::formula::{Parsed, Read};
+use crate::lexing::{first_token, is_tangled};
 use crate::state::{Mode, Part, State};
 use crate::steps::{expr_at, here, read_part, step};
-use crate::stop::Stop;
-use cpl_base::{Many, Text};
+use cpl_base::{Many, Text, is_blank};
 use indexmap::IndexSet;
 use std::alloc::Global;
 
 /// The fault at a token, with the place of the one before it: an offset begins with its minus.
-fn located(stop: Stop, before: u32, at: u32) -> FormulaFault
-    ensures { result ≡ located_of stop before at }
+fn fault_at(stop: Stop, before: u32, at: u32) -> FormulaFault
+    ensures { result ≡ fault_at stop before at }
 {
     match stop {
         Stop::Syntax => FormulaFault::Syntax { at },
@@ -45,7 +43,7 @@ fn walk(
     requires text { length text.now < 2 ^ 32 }
     requires fields { length fields.now < 2 ^ 16 }
     requires alarms { length alarms.now < 2 ^ 16 }
-    ensures gives { WalkGives result reads.new.keys (walk_of 0 ([], start_of) (tokens_of fields.now alarms.now text.now)) }
+    ensures gives { WalkGives result reads.new.keys (walk 0 ([], start) (tokens_of fields.now alarms.now text.now)) }
     ensures few { IfOk result (λ state. length reads.new.keys < 2 ^ 32) }
 {
     let mut state = State::start(alloc);
@@ -60,7 +58,7 @@ fn walk(
             let here = at as u32;
             match step(alloc, reads, state, token) {
                 Ok(next) => state = next,
-                Err(stop) => return Err(located(stop, before, here)),
+                Err(stop) => return Err(fault_at(stop, before, here)),
             }
             before = here;
             at += length;
@@ -76,8 +74,8 @@ fn last_operand(
     mode: Mode,
 ) -> Result<Option<Part>, FormulaFault>
     requires { length reads.old.keys < 2 ^ 32 }
-    ensures ok { IfOk result (λ operand. option_map (λ part. (reads.new.keys, part)) operand ≡ last_operand_of reads.old.keys mode) }
-    ensures err { IfErr result (λ fault. fault ≡ OutOfMemory) }
+    ensures ok { IfOk result (λ operand. option_map (λ part. (reads.new.keys, part)) operand ≡ last_operand reads.old.keys mode) }
+    ensures err { IfErr result (λ fault. fault ≡ FormulaFault.Memory) }
 {
     match mode {
         Mode::Behind(operand) => Ok(Some(operand)),
@@ -94,7 +92,7 @@ fn finished(
     end: u32,
 ) -> Result<Parsed, FormulaFault>
     requires { length reads.old.keys < 2 ^ 32 }
-    ensures { Gives (λ parsed. parsed) result (finished_of end state.frames state.level (last_operand_of reads.old.keys state.mode)) }
+    ensures { TextGives result (finished end state.frames state.level (last_operand reads.old.keys state.mode)) }
 {
     let State {
         frames,
@@ -128,7 +126,7 @@ fn read(
     requires text { length text.now < 2 ^ 32 }
     requires fields { length fields.now < 2 ^ 16 }
     requires alarms { length alarms.now < 2 ^ 16 }
-    ensures { Gives (λ p. p) result (parsed_of fields.now alarms.now text.now) }
+    ensures { TextGives result (parsed_of fields.now alarms.now text.now) }
 {
     if is_tangled(text) {
         return Err(FormulaFault::DeepFormula);
@@ -144,8 +142,10 @@ fn read(
 ///
 /// A formula is made of numbers, names, neighbours `field[dx,dy]`, `+`, `-`, `*`, `/`, a minus in front,
 /// brackets and the functions `min`, `max`, `abs` and `sel`; chains group from the left, and blanks between
-/// tokens don't matter. There are fewer than 2^16 fields and alarms, and the text has fewer than 2^32
-/// bytes.
+/// tokens, spaces and tabs, don't matter. There are fewer than 2^16 fields and alarms, and the text has fewer
+/// than 2^32 bytes. Nothing else is asked of the names: one that is empty is never read, and of names that
+/// stand twice the first is meant. So a caller that lets a text read some of its fields alone gives an empty
+/// name for each other field, and places are places among all of them.
 ///
 /// Errors: `DeepFormula` where more than 32 `(` are open somewhere or more than 32 minus signs stand in a
 /// row; else the fault of the first token with which no formula goes on: `BadNumber` at a number that is no
@@ -163,14 +163,12 @@ pub fn parse(
     requires text { length text.now < 2 ^ 32 }
     requires fields { length fields.now < 2 ^ 16 }
     requires alarms { length alarms.now < 2 ^ 16 }
-    // What reading one token after another gives.
-    ensures parsed { Gives (λ p. p) result (parsed_of fields.now alarms.now text.now) }
-    // What a text is follows from the derivations of the grammar alone: a formula, or its first fault.
-    ensures outcome { OutcomeOf fields.now alarms.now text.now (parsed_of fields.now alarms.now text.now) }
-    // It is nothing else.
-    ensures only { (r : Result ParsedValue Fault) → OutcomeOf fields.now alarms.now text.now r → Gives (λ p. p) result r }
+    // The answer follows from the derivations of the grammar alone: a formula, or the text's first fault.
+    ensures answer { IsAnswer fields.now alarms.now text.now result }
     // What is read can be evaluated at a value for each of its reads.
     ensures over { IfOk result (λ p. IsTrue (is_over (length p.reads) p.tree)) }
+    // These are among the names given, each once.
+    ensures reads { IfOk result (λ p. AreReads (length fields.now) (length alarms.now) p.reads) }
 {
     read(alloc, text, fields, alarms)
 }

@@ -3,26 +3,27 @@
 //! Nothing here reads: `reading` goes from one state to the next.
 
 use crate::formula::Formula;
-use crate::tokens::{Function, ProductSign, SumSign};
+use crate::functions::{Binary, Function, Ternary, Unary};
+use crate::tokens::{ProductSign, SumSign};
 use cpl_base::Many;
 use sqlite_items::Boxed;
 
 /// A part of a formula that has been read whole. One that is deeper than formulas may be is not kept.
-#[derive(Debug, Drop)]
+#[derive(Drop)]
 pub enum Part {
     Kept { tree: Boxed<Formula>, depth: u8 },
     Deep,
 }
 
 /// What stands in front of a `+` or a `-`, with that sign.
-#[derive(Debug, Drop)]
+#[derive(Drop)]
 pub struct Sum {
     pub left: Part,
     pub sign: SumSign,
 }
 
 /// What stands in front of a `*` or a `/`, with that sign.
-#[derive(Debug, Drop)]
+#[derive(Drop)]
 pub struct Product {
     pub left: Part,
     pub sign: ProductSign,
@@ -30,36 +31,34 @@ pub struct Product {
 
 /// What waits, inside one pair of brackets, for the operand behind it: a sum, a product, and how many
 /// minus signs stand in front of the operand. More than 33 count as 33.
-#[derive(Debug, Drop)]
+#[derive(Drop)]
 pub struct Level {
     pub sum: Option<Sum>,
     pub product: Option<Product>,
     pub minus: u8,
 }
 
-/// What an open `(` will make, with the arguments that have been read.
-#[derive(Debug, Drop)]
+/// What is being read in an open `(`: a group, or an argument of a function, with those before it.
+#[derive(Drop)]
 pub enum Opening {
     Group,
-    Abs,
-    Min,
-    MinOf(Part),
-    Max,
-    MaxOf(Part),
-    Select,
-    SelectIf(Part),
-    SelectOr(Part, Part),
+    OnlyOf(Unary),
+    FirstOfTwo(Binary),
+    SecondOfTwo(Binary, Part),
+    FirstOfThree(Ternary),
+    SecondOfThree(Ternary, Part),
+    ThirdOfThree(Ternary, Part, Part),
 }
 
 /// An open `(`, and what waits outside of it.
-#[derive(Debug, Drop)]
+#[derive(Drop)]
 pub struct Frame {
     pub level: Level,
     pub opening: Opening,
 }
 
 /// What the last token was a part of.
-#[derive(Debug, Drop)]
+#[derive(Drop)]
 pub enum Mode {
     /// An operand may stand here.
     Wanted,
@@ -81,7 +80,7 @@ pub enum Mode {
 
 /// Where reading stands: the open brackets, the outermost first, what waits in the innermost, and what
 /// the last token was.
-#[derive(Debug, Drop)]
+#[derive(Drop)]
 pub struct State {
     pub frames: Many<Frame>,
     pub level: Level,

@@ -1,32 +1,27 @@
 //! One step of reading: from a state and a token to the next state, or why no formula goes on so.
 
 ghost use Rattle.std.specs.Prelude.{◌≡◌, ◌+◌, ◌<◌, ◌≤◌, ◌^◌, IfOk, List, length};
-ghost use Rattle.cpl_formula.specs.Levels.{StepGives, ending_read, here as here_of, product_join as product_join_of, sum_join as sum_join_of};
-ghost use Rattle.cpl_formula.specs.Reads.{noted};
+ghost use Rattle.cpl_formula.specs.Levels.{StepGives, ending_read, here};
+ghost use Rattle.cpl_formula.specs.Reads.{with_read};
 ghost use Rattle.cpl_formula.specs.Grammar.{input_of};
-ghost use Rattle.cpl_formula.specs.Steps.{behind as behind_of, between as between_of, called as called_of, close as close_of, closed as closed_of, column as column_of, comma as comma_of, continued as continued_of, expr_at as expr_at_of, fresh as fresh_of, leaf as leaf_of, named as named_of, near as near_of, opened as opened_of, opening_of as opening_for, row as row_of, split_last, negated as negated_of, start as start_of, state as state_of, step as step_of, term_at as term_at_of, wanted as wanted_of, with_product as with_product_of, with_sum as with_sum_of};
-ghost use Rattle.cpl_formula.specs.declared.formula.Read.{Read as ReadValue};
+ghost use Rattle.cpl_formula.specs.Steps.{behind, between, called, close, closed_part, column, comma, expr_at, fresh, leaf, named, near, negated, next_opening, opened, opening_of, row, split_last, start, state, step, wanted, with_product, with_sum};
+ghost use Rattle.cpl_formula.specs.declared.formula.Read.{Read};
 
-use crate::formula::{Formula, Read, ReadName};
-use crate::parts::{Join, Wrap, around, chosen, joined, leaf, negated, one_more};
+use crate::fault::Stop;
+use crate::formula::{FARTHEST, Formula, Read, ReadName};
+use crate::functions::Function;
+use crate::parts::{Join, Wrap, around, joined, joined_three, leaf, negated, one_more};
 use crate::reads::note;
 use crate::state::{Frame, Level, Mode, Opening, Part, Product, State, Sum};
-use crate::stop::Stop;
-use crate::tokens::{Function, ProductSign, SumSign, Token};
-use cpl_base::{Many, Memory};
+use crate::tokens::{SumSign, Token};
+use cpl_base::{MILLION, Many, Memory};
 use indexmap::IndexSet;
 use std::alloc::{AllocError, AllocFailed, Global};
-
-/// A unit in millionths.
-const MILLION: i64 = 1_000_000;
-
-/// The farthest neighbour in one direction.
-const FARTHEST: u8 = 2;
 
 impl Level {
     /// Nothing waits.
     fn fresh() -> Level
-        ensures { result ≡ fresh_of }
+        ensures { result ≡ fresh }
     {
         Level {
             sum: None,
@@ -39,7 +34,7 @@ impl Level {
 impl State {
     /// Before the first token. Takes no memory.
     pub fn start(alloc: Global) -> State
-        ensures { result ≡ start_of }
+        ensures { result ≡ start }
     {
         State {
             frames: Many::of(Vec::new(alloc)),
@@ -50,7 +45,7 @@ impl State {
 
     /// A state.
     fn of(frames: Many<Frame>, level: Level, mode: Mode) -> State
-        ensures { result ≡ state_of frames level mode }
+        ensures { result ≡ state frames level mode }
     {
         State {
             frames,
@@ -60,43 +55,23 @@ impl State {
     }
 }
 
-/// The sign of a sum, as what joins its sides.
-fn sum_join(sign: SumSign) -> Join
-    ensures { result ≡ sum_join_of sign }
-{
-    match sign {
-        SumSign::Plus => Join::Plus,
-        SumSign::Less => Join::Less,
-    }
-}
-
-/// The sign of a product, as what joins its sides.
-fn product_join(sign: ProductSign) -> Join
-    ensures { result ≡ product_join_of sign }
-{
-    match sign {
-        ProductSign::Times => Join::Times,
-        ProductSign::Over => Join::Over,
-    }
-}
-
 /// The product that waits, with its last factor.
 fn with_product(alloc: Global, waits: Option<Product>, right: Part) -> Result<Part, AllocError>
-    ensures { IfOk result (λ part. part ≡ with_product_of waits right) }
+    ensures { IfOk result (λ part. part ≡ with_product waits right) }
 {
     match waits {
         None => Ok(right),
-        Some(Product { left, sign }) => joined(alloc, product_join(sign), left, right),
+        Some(Product { left, sign }) => joined(alloc, Join::Product(sign), left, right),
     }
 }
 
 /// The sum that waits, with its last term.
 fn with_sum(alloc: Global, waits: Option<Sum>, right: Part) -> Result<Part, AllocError>
-    ensures { IfOk result (λ part. part ≡ with_sum_of waits right) }
+    ensures { IfOk result (λ part. part ≡ with_sum waits right) }
 {
     match waits {
         None => Ok(right),
-        Some(Sum { left, sign }) => joined(alloc, sum_join(sign), left, right),
+        Some(Sum { left, sign }) => joined(alloc, Join::Sum(sign), left, right),
     }
 }
 
@@ -107,7 +82,7 @@ fn term_at(
     minus: u8,
     operand: Part,
 ) -> Result<Part, AllocError>
-    ensures { IfOk result (λ part. part ≡ with_product_of product (negated_of minus operand)) }
+    ensures { IfOk result (λ part. part ≡ with_product product (negated minus operand)) }
 {
     let factor = negated(alloc, minus, operand)?;
     with_product(alloc, product, factor)
@@ -115,7 +90,7 @@ fn term_at(
 
 /// The expr that an operand ends.
 pub fn expr_at(alloc: Global, level: Level, operand: Part) -> Result<Part, AllocError>
-    ensures { IfOk result (λ part. part ≡ expr_at_of level operand) }
+    ensures { IfOk result (λ part. part ≡ expr_at level operand) }
 {
     let Level {
         sum,
@@ -126,49 +101,46 @@ pub fn expr_at(alloc: Global, level: Level, operand: Part) -> Result<Part, Alloc
     with_sum(alloc, sum, term)
 }
 
-/// What a function's `(` will make.
+/// What is read behind a function's `(`.
 fn opening_of(function: Function) -> Opening
-    ensures { result ≡ opening_for function }
+    ensures { result ≡ opening_of function }
 {
     match function {
-        Function::Abs => Opening::Abs,
-        Function::Min => Opening::Min,
-        Function::Max => Opening::Max,
-        Function::Select => Opening::Select,
+        Function::Unary(function) => Opening::OnlyOf(function),
+        Function::Binary(function) => Opening::FirstOfTwo(function),
+        Function::Ternary(function) => Opening::FirstOfThree(function),
     }
 }
 
-/// What a `)` makes with its last argument, if it may stand there.
-fn closed(alloc: Global, opening: Opening, argument: Part) -> Result<Option<Part>, AllocError>
-    ensures { IfOk result (λ made. made ≡ closed_of opening argument) }
+/// What a `)` makes with the last argument, if it may stand there.
+fn closed_part(alloc: Global, opening: Opening, argument: Part) -> Result<Option<Part>, AllocError>
+    ensures { IfOk result (λ made. made ≡ closed_part opening argument) }
 {
     let made = match opening {
         Opening::Group => around(alloc, Wrap::Brackets, argument)?,
-        Opening::Abs => around(alloc, Wrap::Abs, argument)?,
-        Opening::MinOf(first) => joined(alloc, Join::Min, first, argument)?,
-        Opening::MaxOf(first) => joined(alloc, Join::Max, first, argument)?,
-        Opening::SelectOr(condition, first) => chosen(alloc, condition, first, argument)?,
-        Opening::Min | Opening::Max | Opening::Select | Opening::SelectIf(_) => return Ok(None),
+        Opening::OnlyOf(function) => around(alloc, Wrap::Call(function), argument)?,
+        Opening::SecondOfTwo(function, a) => joined(alloc, Join::Call(function), a, argument)?,
+        Opening::ThirdOfThree(function, a, b) => joined_three(alloc, function, a, b, argument)?,
+        _ => return Ok(None),
     };
     Ok(Some(made))
 }
 
-/// What a `,` makes with one more argument, if it may stand there.
-fn continued(opening: Opening, argument: Part) -> Option<Opening>
-    ensures { result ≡ continued_of opening argument }
+/// What is read behind a `,`, with one more argument, if it may stand there.
+fn next_opening(opening: Opening, argument: Part) -> Option<Opening>
+    ensures { result ≡ next_opening opening argument }
 {
     match opening {
-        Opening::Min => Some(Opening::MinOf(argument)),
-        Opening::Max => Some(Opening::MaxOf(argument)),
-        Opening::Select => Some(Opening::SelectIf(argument)),
-        Opening::SelectIf(condition) => Some(Opening::SelectOr(condition, argument)),
+        Opening::FirstOfTwo(function) => Some(Opening::SecondOfTwo(function, argument)),
+        Opening::FirstOfThree(function) => Some(Opening::SecondOfThree(function, argument)),
+        Opening::SecondOfThree(function, a) => Some(Opening::ThirdOfThree(function, a, argument)),
         _ => None,
     }
 }
 
 /// Behind a `(`.
 fn opened(frames: Many<Frame>, level: Level, opening: Opening) -> Result<State, AllocFailed<Frame>>
-    ensures { IfOk result (λ state. state ≡ opened_of frames level opening) }
+    ensures { IfOk result (λ state. state ≡ opened frames level opening) }
 {
     let mut frames = frames.into_items();
     frames.push(Frame { level, opening })?;
@@ -178,8 +150,8 @@ fn opened(frames: Many<Frame>, level: Level, opening: Opening) -> Result<State, 
 /// The part that a read is.
 pub fn read_part(alloc: Global, reads: &mut IndexSet<Read>, read: Read) -> Result<Part, Memory>
     requires { length reads.old.keys < 2 ^ 32 }
-    ensures part { IfOk result (λ part. part ≡ leaf_of (input_of reads.old.keys read)) }
-    ensures reads { IfOk result (λ part. reads.new.keys ≡ noted reads.old.keys read) }
+    ensures part { IfOk result (λ part. part ≡ leaf (input_of reads.old.keys read)) }
+    ensures reads { IfOk result (λ part. reads.new.keys ≡ with_read reads.old.keys read) }
     ensures few { IfOk result (λ part. length reads.new.keys ≤ length reads.old.keys + 1) }
 {
     let place = note(reads, read)?;
@@ -196,7 +168,7 @@ fn wanted(
     token: Token,
 ) -> Result<State, Stop>
     requires { length reads.old.keys < 2 ^ 32 }
-    ensures gives { StepGives result reads.new.keys (wanted_of reads.old.keys frames level token) }
+    ensures gives { StepGives result reads.new.keys (wanted reads.old.keys frames level token) }
     ensures few { IfOk result (λ next. length reads.new.keys ≤ length reads.old.keys + 1) }
 {
     let mode = match token {
@@ -207,8 +179,8 @@ fn wanted(
         Token::Open => return Ok(opened(frames, level, Opening::Group)?),
         Token::Function(function) => Mode::Called(function),
         Token::Digit(digit) => {
-            let number = i64::from(digit) * MILLION;
-            Mode::Behind(leaf(alloc, Formula::Number(number))?)
+            let number = u64::from(digit) * MILLION;
+            Mode::Behind(leaf(alloc, Formula::Number(number as i64))?)
         }
         Token::Number(number) => Mode::Behind(leaf(alloc, Formula::Number(number))?),
         Token::Field(field) => Mode::Named(field),
@@ -225,7 +197,7 @@ fn wanted(
 
 /// An offset, where it is near enough.
 fn near(minus: bool, digit: u8) -> Result<i8, Stop>
-    ensures { result ≡ near_of minus digit }
+    ensures { result ≡ near minus digit }
 {
     if digit > FARTHEST {
         return Err(Stop::FarNeighbour { minus });
@@ -242,7 +214,7 @@ fn column(
     minus: bool,
     token: Token,
 ) -> Result<State, Stop>
-    ensures { (reads : List ReadValue) → StepGives result reads (column_of reads frames level field minus token) }
+    ensures { (reads : List Read) → StepGives result reads (column reads frames level field minus token) }
 {
     let mode = match token {
         Token::Digit(digit) => Mode::Between {
@@ -263,7 +235,7 @@ fn between(
     dx: i8,
     token: Token,
 ) -> Result<State, Stop>
-    ensures { (reads : List ReadValue) → StepGives result reads (between_of reads frames level field dx token) }
+    ensures { (reads : List Read) → StepGives result reads (between reads frames level field dx token) }
 {
     match token {
         Token::Comma => {
@@ -287,7 +259,7 @@ fn row(
     minus: bool,
     token: Token,
 ) -> Result<State, Stop>
-    ensures { (reads : List ReadValue) → StepGives result reads (row_of reads frames level field dx minus token) }
+    ensures { (reads : List Read) → StepGives result reads (row reads frames level field dx minus token) }
 {
     let mode = match token {
         Token::Digit(digit) => Mode::Ending {
@@ -338,11 +310,11 @@ fn innermost(frames: Many<Frame>) -> Option<(Many<Frame>, Frame)>
 
 /// A `)` behind an expression.
 fn close(alloc: Global, frames: Many<Frame>, argument: Part) -> Result<State, Stop>
-    ensures { (reads : List ReadValue) → StepGives result reads (close_of reads argument (split_last frames)) }
+    ensures { (reads : List Read) → StepGives result reads (close reads argument (split_last frames)) }
 {
     let (frames, frame) = innermost(frames).ok_or(Stop::Syntax)?;
     let Frame { level, opening } = frame;
-    match closed(alloc, opening, argument)? {
+    match closed_part(alloc, opening, argument)? {
         Some(part) => Ok(State::of(frames, level, Mode::Behind(part))),
         None => Err(Stop::Syntax),
     }
@@ -350,11 +322,11 @@ fn close(alloc: Global, frames: Many<Frame>, argument: Part) -> Result<State, St
 
 /// A `,` behind an expression.
 fn comma(frames: Many<Frame>, argument: Part) -> Result<State, Stop>
-    ensures { (reads : List ReadValue) → StepGives result reads (comma_of reads argument (split_last frames)) }
+    ensures { (reads : List Read) → StepGives result reads (comma reads argument (split_last frames)) }
 {
     let (frames, frame) = innermost(frames).ok_or(Stop::Syntax)?;
     let Frame { level, opening } = frame;
-    match continued(opening, argument) {
+    match next_opening(opening, argument) {
         Some(opening) => Ok(opened(frames, level, opening)?),
         None => Err(Stop::Syntax),
     }
@@ -368,7 +340,7 @@ fn behind(
     operand: Part,
     token: Token,
 ) -> Result<State, Stop>
-    ensures { (reads : List ReadValue) → StepGives result reads (behind_of reads frames level operand token) }
+    ensures { (reads : List Read) → StepGives result reads (behind reads frames level operand token) }
 {
     match token {
         Token::Sum(sign) => {
@@ -397,7 +369,7 @@ fn behind(
 
 /// A field at the cell itself.
 pub fn here(field: u16) -> Read
-    ensures { result ≡ here_of field }
+    ensures { result ≡ here field }
 {
     Read {
         name: ReadName::Field(field),
@@ -416,7 +388,7 @@ fn named(
     token: Token,
 ) -> Result<State, Stop>
     requires { length reads.old.keys < 2 ^ 32 }
-    ensures gives { StepGives result reads.new.keys (named_of reads.old.keys frames level field token) }
+    ensures gives { StepGives result reads.new.keys (named reads.old.keys frames level field token) }
     ensures few { IfOk result (λ next. length reads.new.keys ≤ length reads.old.keys + 1) }
 {
     if let Token::OpenBracket = token {
@@ -437,7 +409,7 @@ fn called(
     function: Function,
     token: Token,
 ) -> Result<State, Stop>
-    ensures { (reads : List ReadValue) → StepGives result reads (called_of reads frames level function token) }
+    ensures { (reads : List Read) → StepGives result reads (called reads frames level function token) }
 {
     match token {
         Token::Open => Ok(opened(frames, level, opening_of(function))?),
@@ -454,7 +426,7 @@ pub fn step(
     token: Token,
 ) -> Result<State, Stop>
     requires { length reads.old.keys < 2 ^ 32 }
-    ensures gives { StepGives result reads.new.keys (step_of reads.old.keys state token) }
+    ensures gives { StepGives result reads.new.keys (step reads.old.keys state token) }
     ensures few { IfOk result (λ next. length reads.new.keys ≤ length reads.old.keys + 1) }
 {
     let State {

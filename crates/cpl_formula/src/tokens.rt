@@ -3,32 +3,24 @@
 //! How a text is cut into them stands in `lexing`, how they make a formula in `reading`.
 
 use crate::formula::ReadName;
+use crate::functions::Function;
 
 /// `+` or `-` between two parts; a `-` in front of one is the same token.
-#[derive(Clone, Copy, Debug, PartialEq, Eq)]
+#[derive(Clone, Copy)]
 pub enum SumSign {
     Plus,
     Less,
 }
 
 /// `*` or `/`.
-#[derive(Clone, Copy, Debug, PartialEq, Eq)]
+#[derive(Clone, Copy)]
 pub enum ProductSign {
     Times,
     Over,
 }
 
-/// A function of formulas.
-#[derive(Clone, Copy, Debug, PartialEq, Eq)]
-pub enum Function {
-    Abs,
-    Min,
-    Max,
-    Select,
-}
-
 /// A token.
-#[derive(Clone, Copy, Debug, PartialEq, Eq)]
+#[derive(Clone, Copy)]
 pub enum Token {
     Sum(SumSign),
     Product(ProductSign),

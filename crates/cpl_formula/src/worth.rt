@@ -10,10 +10,10 @@ ghost use Rattle.cpl_formula.specs.Tree.{is_over, value_of, value_step};
 ghost use Rattle.cpl_formula.specs.declared.formula.Formula.TheOpen as level;
 
 use crate::formula::Formula;
-use cpl_base::{div, mul};
+use cpl_base::{GREATEST, div, mul};
 
 /// The greatest value, in millionths.
-const GREATEST: i64 = 1_000_000_000_000_000;
+const MOST: i64 = GREATEST as i64;
 
 /// The value of a formula, in millionths, at the values of its inputs. Takes no memory.
 ///
@@ -158,7 +158,7 @@ fn within(number: i64) -> i64
     ensures value { result ≡ clip number }
     ensures within { IsValue result }
 {
-    if (-GREATEST..=GREATEST).contains(&number) {
+    if (-MOST..=MOST).contains(&number) {
         number
     } else {
         farthest(number)
@@ -172,5 +172,5 @@ fn farthest(number: i64) -> i64
     requires { greatest < unsigned_abs number }
     ensures { result ≡ clip number }
 {
-    if number < 0 { -GREATEST } else { GREATEST }
+    if number < 0 { -MOST } else { MOST }
 }

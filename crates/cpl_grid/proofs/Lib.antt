@@ -1,6 +1,7 @@
-pub mod Cells
-pub mod Counting
-pub mod Dividing
-pub mod Owning
-pub mod Ranges
-pub mod Totals
+mod BlockFacts
+mod BoxFacts
+mod GridFacts
+mod OwnerFacts
+mod PartFacts
+mod RangeFacts
+mod TotalFacts

@@ -1,4 +1,5 @@
 pub mod Blocks
+pub mod Examples
 pub mod Grid
 pub mod Owners
-pub mod Rows
+pub mod Parts

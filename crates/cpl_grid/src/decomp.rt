@@ -2,9 +2,9 @@
 
 ghost use Rattle.std.specs.Prelude.{◌≡◌, ◌≢◌, ◌↔◌, ℕ, ◌+◌, ◌-◌, ◌*◌, ◌/◌, ◌%◌, ◌^◌, ◌<◌, ◌≤◌, length, slice_get, Some, IsOk, IsErr, IfOk, IfErr};
 ghost use Rattle.cpl_grid.specs.Grid.{IsCell, IsGrid, cells_in};
-ghost use Rattle.cpl_grid.specs.Owners.{IsDivision, IsLayout, IsPart, IsPet, cells_of, owner_of};
+ghost use Rattle.cpl_grid.specs.Owners.{IsDivision, IsLayout, IsPartOf, IsPet, cells_of, owner_of, part_of, pets_in};
 
-use crate::blocks::{Block, block_at, holder};
+use crate::blocks::{Part, block_at, holder};
 use crate::grid::Grid;
 use std::marker::Model;
 
@@ -21,7 +21,7 @@ pub struct BlocksMismatch {
 /// blocks are counted along the columns first, and so are the PETs. Of n columns in m blocks the first
 /// n mod m blocks have one column more than the others; rows alike. Where there are more blocks than
 /// columns or rows some blocks are empty.
-#[derive(Clone, Copy, Debug)]
+#[derive(Debug, Drop)]
 pub struct Decomp {
     grid: Grid,
     px: u32,
@@ -37,8 +37,6 @@ impl Model for Decomp {
     ghost view = { λ d. record { grid = d.grid; px = d.px; py = d.py; first_pet = d.first_pet } };
 
     ghost invariant = { λ d. IsLayout (record { grid = d.grid; px = d.px; py = d.py; first_pet = d.first_pet }) };
-
-    ghost inverse = { λ layout. record { grid = layout.grid; px = layout.px; py = layout.py; first_pet = layout.first_pet } };
 }
 
 impl Decomp {
@@ -87,6 +85,44 @@ impl Decomp {
         self.grid
     }
 
+    /// The PET of the first block, the least that has one.
+    ///
+    /// Source: this project's own.
+    pub fn first_pet(&self) -> u8
+        ensures value { result ≡ self.now.first_pet }
+        ensures layout { IsLayout self.now }
+    {
+        self.first_pet
+    }
+
+    /// How many PETs have a block: they follow one another from the first on.
+    ///
+    /// Source: this project's own.
+    pub fn pets(&self) -> u8
+        ensures value { result ≡ pets_in self.now }
+        ensures layout { IsLayout self.now }
+    {
+        (self.px * self.py) as u8
+    }
+
+    /// The columns and the rows of the block of a PET, which is one of the PETs that have a block. Its
+    /// cells are those in these columns and rows, one row after the other: the cell in column i and row
+    /// j of the block, both from 0, is at the place `i + j * columns.length` among them.
+    ///
+    /// Source: ESMF Reference Manual, regular decompositions of a DistGrid.
+    pub fn part(&self, pet: u8) -> Part
+        requires { IsPet self.now pet }
+        ensures value { result ≡ part_of self.now pet }
+        ensures is_part { IsPartOf self.now pet result }
+        ensures layout { IsLayout self.now }
+    {
+        let block = u32::from(pet - self.first_pet);
+        Part {
+            columns: block_at(self.grid.nx, self.px, block % self.px),
+            rows: block_at(self.grid.ny, self.py, block / self.px),
+        }
+    }
+
     /// How many cells a PET owns, which may be none. It is one of the PETs that have a block.
     ///
     /// Source: ESMF Reference Manual, regular decompositions of a DistGrid.
@@ -95,8 +131,8 @@ impl Decomp {
         ensures value { result ≡ length (cells_of self.now pet) }
         ensures within { result ≤ cells_in self.now.grid }
     {
-        let (across, down) = self.sides(pet);
-        across.length * down.length
+        let part = self.part(pet);
+        part.columns.length * part.rows.length
     }
 
     /// The PET that owns the cell `s`, which is from 1 to the number of cells.
@@ -120,13 +156,13 @@ impl Decomp {
     pub fn local(&self, s: u32) -> u32
         requires { IsCell self.now.grid s }
         ensures value { slice_get (cells_of self.now (owner_of self.now s)) result ≡ Some s }
-        ensures only { (k : ℕ) → slice_get (cells_of self.now (owner_of self.now s)) k ≡ Some s → k ≡ result }
+        ensures unique { (k : ℕ) → slice_get (cells_of self.now (owner_of self.now s)) k ≡ Some s → k ≡ result }
         ensures within { result < length (cells_of self.now (owner_of self.now s)) }
     {
-        let (across, down) = self.sides(self.owner(s));
-        let column = (s - 1) % self.grid.nx;
-        let row = (s - 1) / self.grid.nx;
-        (row - down.start) * across.length + (column - across.start)
+        let part = self.part(self.owner(s));
+        let column = (s - 1) % self.grid.nx - part.columns.start;
+        let row = (s - 1) / self.grid.nx - part.rows.start;
+        column + row * part.columns.length
     }
 
     /// The cell at the place `k` among the cells of a PET, counted from 0. The PET is one of those that
@@ -140,26 +176,15 @@ impl Decomp {
         ensures owner { owner_of self.now result ≡ pet }
         ensures within { IsCell self.now.grid result }
     {
-        let (across, down) = self.sides(pet);
-        let column = across.start + k % across.length;
-        let row = down.start + k / across.length;
+        let part = self.part(pet);
+        let column = part.columns.start + k % part.columns.length;
+        let row = part.rows.start + k / part.columns.length;
         1 + column + row * self.grid.nx
-    }
-
-    /// The columns and the rows of the block of a PET.
-    fn sides(&self, pet: u8) -> (Block, Block)
-        requires { IsPet self.now pet }
-        ensures { IsPart self.now pet result.0 result.1 }
-    {
-        let block = u32::from(pet - self.first_pet);
-        let across = block_at(self.grid.nx, self.px, block % self.px);
-        let down = block_at(self.grid.ny, self.py, block / self.px);
-        (across, down)
     }
 }
 
-/// What holds of every division: each cell is in the list of one PET, at one place, and the lists
-/// together are as long as the grid.
+/// What holds of every division: each cell is in the list of one PET, at one place, the lists together
+/// are as long as the grid, and what a PET owns are the cells of its part.
 ///
 /// Source: this project's own.
 pub fn decomposition_laws(decomp: &Decomp)

@@ -1,7 +1,7 @@
 //! A grid of cells, and the neighbours of a cell.
 
-ghost use Rattle.std.specs.Prelude.{◌≡◌, ℕ, ◌^◌, ◌<◌, ◌≤◌, ◌≤ℤ◌, neg_ℤ, pos};
-ghost use Rattle.cpl_grid.specs.Grid.{brought as brought_to, wrapped as wrapped_to};
+ghost use Rattle.std.specs.Prelude.{◌≡◌, ℕ, ◌^◌, ◌<◌, ◌≤◌, ◌+ℤ◌, ◌≤ℤ◌, neg_ℤ, pos};
+ghost use Rattle.cpl_grid.specs.Grid.{IsCell, IsColumn, IsGrid, IsNumbering, IsOffset, IsRow, cells_in, column_at, nearest_number, neighbour_of, ring_number, row_at};
 
 /// A grid of `nx` columns and `ny` rows, whose columns may be a ring.
 ///
@@ -19,8 +19,6 @@ pub struct Grid {
 }
 
 impl Grid {
-    ghost use Rattle.cpl_grid.specs.Grid.{IsCell, IsGrid, IsOffset, cells_in, column_at as column_at_of, neighbour_of};
-
     /// How many cells there are.
     ///
     /// Source: ESMF Reference Manual, sequence indices of the elements of an Array.
@@ -45,35 +43,56 @@ impl Grid {
         ensures value { result ≡ neighbour_of self.now s dx dy }
         ensures within { IsCell self.now result }
     {
-        let x = i64::from((s - 1) % self.nx + 1) + i64::from(dx);
-        let y = i64::from((s - 1) / self.nx + 1) + i64::from(dy);
-        let column = self.column_at(x);
-        let row = brought(self.ny, y);
+        let column = self.column_to((s - 1) % self.nx + 1, dx);
+        let row = self.row_to((s - 1) / self.nx + 1, dy);
         column + (row - 1) * self.nx
     }
 
-    /// The column that `x` comes to: on a ring where the grid is periodic, else brought to the edge.
-    #[tactic(auto, unfolding(crate::specs::Grid::column_at))]
-    fn column_at(&self, x: i64) -> u32
-        requires grid { IsGrid self.now }
-        requires above { neg_ℤ (pos (2 ^ 32)) ≤ℤ x }
-        ensures value { result ≡ column_at_of self.now x }
-        ensures from_one { 1 ≤ result }
-        ensures within { result ≤ self.now.nx }
+    /// The column, from 1 to `nx`, that lies `dx` columns from the column `i`, which is counted from 1
+    /// too and may lie past the last one. Where the grid is periodic the columns are a ring; elsewhere a
+    /// column past an edge is brought to the edge.
+    ///
+    /// Source: this project's own.
+    pub fn column_to(&self, i: u32, dx: i8) -> u32
+        requires { IsGrid self.now }
+        ensures value { result ≡ column_at self.now (pos i +ℤ dx) }
+        ensures within { IsColumn self.now result }
     {
+        let column = i64::from(i) + i64::from(dx);
         if self.periodic {
-            wrapped(self.nx, x)
+            ring_number(self.nx, column)
         } else {
-            brought(self.nx, x)
+            nearest_number(self.nx, column)
         }
+    }
+
+    /// The row, from 1 to `ny`, that lies `dy` rows from the row `j`, which is counted from 1 too and
+    /// may lie past the last one. A row past an edge is brought to the edge.
+    ///
+    /// Source: this project's own.
+    pub fn row_to(&self, j: u32, dy: i8) -> u32
+        requires { IsGrid self.now }
+        ensures value { result ≡ row_at self.now (pos j +ℤ dy) }
+        ensures within { IsRow self.now result }
+    {
+        nearest_number(self.ny, i64::from(j) + i64::from(dy))
     }
 }
 
+/// What holds of the cells of every grid: index, column and row are inverse of each other, and a
+/// neighbour lies in its column and its row, of which each depends on its own offset alone.
+///
+/// Source: this project's own.
+pub fn numbering_laws(grid: &Grid)
+    requires { IsGrid grid.now }
+    ensures { IsNumbering grid.now }
+{}
+
 /// Of the numbers from 1 to `n`, the one nearest to `z`.
-#[tactic(auto, unfolding(crate::specs::Grid::brought))]
-fn brought(n: u32, z: i64) -> u32
+#[tactic(auto, unfolding(crate::specs::Grid::nearest_number))]
+fn nearest_number(n: u32, z: i64) -> u32
     requires { 1 ≤ n }
-    ensures value { result ≡ brought_to n z }
+    ensures value { result ≡ nearest_number n z }
     ensures from_one { 1 ≤ result }
     ensures within { result ≤ n }
 {
@@ -81,11 +100,11 @@ fn brought(n: u32, z: i64) -> u32
 }
 
 /// Of the numbers from 1 to `n`, the one that `z` comes to on a ring of `n`.
-#[tactic(auto, unfolding(crate::specs::Grid::wrapped))]
-fn wrapped(n: u32, z: i64) -> u32
+#[tactic(auto, unfolding(crate::specs::Grid::ring_number))]
+fn ring_number(n: u32, z: i64) -> u32
     requires ring { 1 ≤ n }
     requires above { neg_ℤ (pos (2 ^ 32)) ≤ℤ z }
-    ensures value { result ≡ wrapped_to n z }
+    ensures value { result ≡ ring_number n z }
     ensures from_one { 1 ≤ result }
     ensures within { result ≤ n }
 {

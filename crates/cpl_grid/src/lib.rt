@@ -5,9 +5,10 @@
 
 mod blocks;
 mod decomp;
+mod examples;
 mod grid;
-mod rows;
 
+pub use blocks::{Block, Part, part_laws};
 pub use decomp::{BlocksMismatch, Decomp, decomposition_laws};
-pub use grid::Grid;
-pub use rows::grid_rows;
+pub use examples::grid_examples;
+pub use grid::{Grid, numbering_laws};

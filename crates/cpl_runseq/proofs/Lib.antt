@@ -1,24 +1,10 @@
-pub mod Arrows
-pub mod Bodies
-pub mod Caps
-pub mod Counted
-pub mod Cursors
-pub mod DigitWords
-pub mod Filled
-pub mod Found
-pub mod Kept
-pub mod KeptLaws
-pub mod Lefts
-pub mod Results
-pub mod Runs
-pub mod Sizes
-pub mod Sounds
-pub mod Steady
-pub mod Stepping
-pub mod Steps
-pub mod Summed
-pub mod Tables
-pub mod TopLoops
-pub mod Tops
-pub mod Trees
-pub mod Turning
+mod BodyFacts
+mod EmptyLoopFacts
+mod EmptyLoopOps
+mod LengthFacts
+mod LinkTableFacts
+mod OverFacts
+mod ReadingFacts
+mod ResultFacts
+mod RowWordFacts
+mod WholeFacts

@@ -1,23 +1,14 @@
 -- The options of a link.
-use Rattle.std.specs.Prelude.{ℕ, ℤ, pos, Bool, false, ◌==◌, if◌then◌else◌, List, [], ◌∷◌, fold, codes, Option, Some, None, option_map, Result, Ok, Err}
+use Rattle.std.specs.Prelude.{ℕ, ℤ, pos, Bool, false, ◌==◌, if◌then◌else◌, List, [], ◌∷◌, fold, codes, Option, Some, None, Result, Ok}
 use Rattle.std.specs.List.{list_all, slice_split}
 use Rattle.std.specs.Option.{ok_or}
 use Rattle.std.specs.Str.{str_eq_ignore_ascii_case}
-use Rattle.cpl_base.specs.Chain.{◌>>=◌, when}
-use Rattle.cpl_base.specs.Numerals.{cut_at, signed, signed_part}
-use Rattle.cpl_runseq.specs.declared.faults.SeqFault.{SeqFault}
-use Rattle.cpl_runseq.specs.declared.faults.SeqFault.TheVariants.{BadElement, MethodUnsupported}
-use Rattle.cpl_runseq.specs.declared.link_line.Method.{Method}
-use Rattle.cpl_runseq.specs.declared.link_line.Method.TheVariants.{Redist, Weights}
-use Rattle.cpl_runseq.specs.Sayings.{number_in}
-use Rattle.cpl_runseq.specs.declared.told.Told.{Told}
-use Rattle.cpl_runseq.specs.declared.told.Transfer.{Transfer as ToldTransfer}
-
--- goes on with the value, unless there is a fault
-infixl 10 ◌>>!◌
-abbrev pub ◌>>!◌ : {A B : Type 0} → Result A SeqFault → (A → Result B SeqFault) → Result B SeqFault
-Err fault >>! f = Err fault
-Ok value >>! f = f value
+use Rattle.cpl_base.specs.Numerals.{cut_at, signed_number_word}
+use Rattle.cpl_base.specs.ResultChain.{◌>>=◌, ok_if}
+use Rattle.cpl_runseq.specs.declared.fault.SeqFault.{SeqFault}
+use Rattle.cpl_runseq.specs.declared.fault.SeqFault.TheVariants.{BadElement, MethodUnsupported}
+use Rattle.cpl_sequence.specs.declared.link_line.Method.{Method}
+use Rattle.cpl_sequence.specs.declared.link_line.Method.TheVariants.{Redist, Weights}
 
 -- the values of the options that have an effect, where they are given
 pub record OptionTexts : Type 0 where
@@ -69,14 +60,10 @@ method_in (Some name) =
     else if str_eq_ignore_ascii_case name (codes "weights") then Some Weights
     else None
 
--- a number word behind a sign
-abbrev pub signed_number : Bool × List ℕ → Option ℤ
-signed_number parts = number_in parts.1 >>= (λ n. Some (signed parts.0 n))
-
 -- the number of terms, 0 where none is given
 abbrev pub terms_in : Option (List ℕ) → Option ℤ
 terms_in None = Some (pos 0)
-terms_in (Some text) = signed_number (signed_part text)
+terms_in (Some text) = signed_number_word text
 
 -- the name of the file of weights, which only `weights` has, and must have
 abbrev pub file_in : Method → Option (List ℕ) → Option (List ℕ)
@@ -88,28 +75,11 @@ file_in Weights (Some (c ∷ cs)) = Some (c ∷ cs)
 -- how values go over by these options
 abbrev pub transfer_by : ℕ → OptionTexts → Result Transfer SeqFault
 transfer_by line texts =
-    ok_or (method_in texts.method) (MethodUnsupported line) >>! (λ method.
-    ok_or (terms_in texts.terms) (BadElement line) >>! (λ terms.
-    ok_or (file_in method texts.file) (BadElement line) >>! (λ file.
+    ok_or (method_in texts.method) (MethodUnsupported line) >>= (λ method.
+    ok_or (terms_in texts.terms) (BadElement line) >>= (λ terms.
+    ok_or (file_in method texts.file) (BadElement line) >>= (λ file.
     Ok (record { method = method; file = file; terms = terms }))))
 
 -- how values go over by the words behind a link, each of which begins with a colon
 abbrev pub transfer_of : ℕ → List (List ℕ) → Result Transfer SeqFault
-transfer_of line words = ok_or (when (list_all begins_with_colon words)) (BadElement line) >>! (λ _. transfer_by line (option_texts words))
-
--- the texts that the code tells
-abbrev pub texts_told : Told → OptionTexts
-texts_told told = record {
-  method = option_map (λ text. text.now) told.method;
-  file = option_map (λ text. text.now) told.file;
-  terms = option_map (λ text. text.now) told.terms;
-}
-
--- the way that the code tells
-abbrev pub transfer_told : ToldTransfer → Transfer
-transfer_told t = record { method = t.method; file = t.file.now; terms = t.terms }
-
--- the outcome that the code tells
-abbrev pub result_told : Result ToldTransfer SeqFault → Result Transfer SeqFault
-result_told (Ok t) = Ok (transfer_told t)
-result_told (Err fault) = Err fault
+transfer_of line words = ok_if (list_all begins_with_colon words) (BadElement line) >>= (λ _. transfer_by line (option_texts words))

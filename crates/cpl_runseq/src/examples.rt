@@ -1,8 +1,10 @@
 //! Definitions of `specs/`, evaluated.
 
-ghost use Rattle.cpl_runseq.specs.Examples.{ReadingRows};
+ghost use Rattle.cpl_runseq.specs.Examples.{ReadingExamples};
 
 /// The definition of reading, evaluated on short sequences.
-pub fn reading_rows()
-    ensures { ReadingRows }
+///
+/// Source: this project's own.
+pub fn reading_examples()
+    ensures { ReadingExamples }
 {}

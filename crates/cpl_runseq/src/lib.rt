@@ -1,42 +1,25 @@
-//! The run sequence: its rows read as a tree of loops, and the operations that the tree unrolls to.
+//! The rows of a run sequence, read as a tree of loops over the components that it may name.
 //!
-//! What an operation does is no matter of this crate.
+//! The tree and the operations that it unrolls to are those of `cpl_sequence`, whose names stand here too.
 #![tactic(auto)]
 
-mod counts;
-mod cursor;
-mod element;
 mod elements;
 mod examples;
-mod faults;
-mod frame;
-mod link_line;
+mod fault;
+mod form;
 mod links;
 mod loops;
-mod names;
-mod numbers;
-mod op;
 mod open_loops;
-mod ops;
 mod options;
 mod read_loop;
 mod reading;
-mod rows;
-mod said;
-mod sayings;
-mod seq;
+mod row_forms;
 mod state;
-mod told;
-mod turns;
+mod transfer;
 mod whole;
 mod words;
 
-pub use cursor::Cursor;
-pub use examples::reading_rows;
-pub use faults::SeqFault;
-pub use link_line::{LinkLine, Method};
-pub use names::SeqName;
-pub use op::Op;
+pub use cpl_sequence::{Cursor, LinkLine, Method, Op, Seq, SeqName};
+pub use examples::reading_examples;
+pub use fault::SeqFault;
 pub use reading::read_sequence;
-pub use rows::sequence_rows;
-pub use seq::Seq;

@@ -1,15 +1,15 @@
 //! The connectors that were read so far, found by their two components.
 
-ghost use Rattle.std.specs.Prelude.{◌≡◌, ◌<◌, ◌++◌, ◌∷◌, [], None, length, IfOk, OnOk, option_copied};
+ghost use Rattle.std.specs.Prelude.{◌≡◌, ◌<◌, ◌++◌, ◌∷◌, ◌^◌, [], None, length, IfOk, OnOk, option_copied};
 ghost use Rattle.std.specs.List.{slice_get};
 ghost use Rattle.cpl_runseq.specs.Links.{link_at};
 
-use crate::link_line::LinkLine;
 use cpl_base::{Many, Memory};
+use cpl_sequence::LinkLine;
 use std::alloc::Global;
 use std::marker::Model;
 
-/// There are so many components at the most.
+/// There are at most so many components.
 const MOST_NAMES: usize = 32;
 
 /// Connectors, in the order of their first lines. Contracts see the list of them.
@@ -22,8 +22,8 @@ pub(crate) struct Links {
 
 impl Model for Links {
     ghost use Rattle.std.specs.Prelude.{List};
-    ghost use Rattle.cpl_runseq.specs.declared.link_line.LinkLine.{LinkLine};
-    ghost use Rattle.cpl_runseq.specs.Links.{IsIndexed};
+    ghost use Rattle.cpl_sequence.specs.declared.link_line.LinkLine.{LinkLine};
+    ghost use Rattle.cpl_runseq.specs.LinkTable.{IsIndexed};
 
     ghost Value = { List LinkLine };
 
@@ -77,7 +77,8 @@ impl Links {
 
     /// The connectors, given back. Takes no memory.
     pub fn into_lines(self) -> Many<LinkLine>
-        ensures { result ≡ self }
+        ensures value { result ≡ self }
+        ensures few { length result < 2 ^ 16 }
     {
         let Links { lines, places: _ } = self;
         Many::of(lines)

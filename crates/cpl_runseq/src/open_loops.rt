@@ -1,7 +1,7 @@
 //! The loops that are open at a place.
 
 ghost use Rattle.std.specs.Prelude.{◌≡◌, [], ◌∷◌, length, IfSome, OnOk, MatchOption, option_copied};
-ghost use Rattle.cpl_runseq.specs.Steps.{innermost as innermost_of};
+ghost use Rattle.cpl_runseq.specs.Reading.{innermost_loop};
 
 use crate::read_loop::ReadLoop;
 use cpl_base::Memory;
@@ -16,13 +16,13 @@ pub(crate) struct OpenLoops {
 
 impl Model for OpenLoops {
     ghost use Rattle.std.specs.Prelude.{List, reverse};
-    ghost use Rattle.cpl_runseq.specs.contracts.element.Element as e;
+    ghost use Rattle.cpl_sequence.specs.contracts.element.Element as element;
     ghost use Rattle.std.specs.Coded.{codes};
     ghost use Rattle.cpl_runseq.specs.declared.read_loop.ReadLoop.{ReadLoop};
 
     ghost Value = { List ReadLoop };
 
-    ghost coded = { Prim.hlevel (codes, e.the_row.coded) };
+    ghost coded = { Prim.hlevel (codes, element.the_row.coded) };
 
     ghost view = { λ o. reverse o.held.items };
 }
@@ -45,8 +45,8 @@ impl OpenLoops {
     }
 
     /// The innermost loop, if one is open.
-    pub fn innermost(&self) -> Option<&ReadLoop>
-        ensures { option_copied result ≡ innermost_of self.now }
+    pub fn innermost_loop(&self) -> Option<&ReadLoop>
+        ensures { option_copied result ≡ innermost_loop self.now }
     {
         self.held.last()
     }

@@ -1,6 +1,6 @@
 //! A loop while it is read.
 
-use crate::element::Element;
+use cpl_sequence::Element;
 use sqlite_items::Items;
 
 /// A loop as its row opens it, with what stands in it so far.

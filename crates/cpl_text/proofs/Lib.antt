@@ -1,2 +1,2 @@
-pub mod Places
-pub mod LineLaws
+pub mod PartsFacts
+pub mod LinesFacts

@@ -14,9 +14,9 @@ abbrev pub part_at : ℕ → List ℕ → Part
 part_at start text = record { start = start; «end» = start + length text; text = text }
 
 -- parts that follow each other from a place on, with one byte between them
-abbrev pub placed : ℕ → List (List ℕ) → List Part
-placed start [] = []
-placed start (text ∷ texts) = part_at start text ∷ placed (start + length text + 1) texts
+abbrev pub parts_from : ℕ → List (List ℕ) → List Part
+parts_from start [] = []
+parts_from start (text ∷ texts) = part_at start text ∷ parts_from (start + length text + 1) texts
 
 -- LF
 abbrev pub ends_line : ℕ → Bool
@@ -35,8 +35,8 @@ abbrev pub is_allowed : ℕ → Bool
 is_allowed c = (nat_le 32 c && nat_le c 126) || c == 9
 
 -- what is looked at of what stands between two LFs: neither the CR that ends it nor a comment
-abbrev pub looked_at : List ℕ → List ℕ
-looked_at line = before_first begins_comment (strip_carriage_return line)
+abbrev pub content_of : List ℕ → List ℕ
+content_of line = before_first begins_comment (strip_carriage_return line)
 
 -- whether a part has a byte
 abbrev pub is_word : Part → Bool
@@ -44,7 +44,7 @@ is_word part = nat_lt 0 (length part.text)
 
 -- the words of a text that begins at a place: what stands between blanks, where that is anything
 abbrev pub words_at : ℕ → List ℕ → List Part
-words_at start text = filter is_word (placed start (slice_split is_blank text))
+words_at start text = filter is_word (parts_from start (slice_split is_blank text))
 
 -- a line: its number, and its words
 pub record TextLine : Type 0 where
@@ -53,12 +53,12 @@ pub record TextLine : Type 0 where
 
 -- the line of that number, of what begins at a place and stands between two LFs
 abbrev pub line_at : ℕ → ℕ → List ℕ → TextLine
-line_at number start text = record { number = number; words = words_at start (looked_at text) }
+line_at number start text = record { number = number; words = words_at start (content_of text) }
 
--- lines with their words, numbered from a number on
-abbrev pub numbered : ℕ → List Part → List TextLine
-numbered number [] = []
-numbered number (part ∷ parts) = line_at number part.start part.text ∷ numbered (number + 1) parts
+-- lines with their words, counted from a number on
+abbrev pub lines_from : ℕ → List Part → List TextLine
+lines_from number [] = []
+lines_from number (part ∷ parts) = line_at number part.start part.text ∷ lines_from (number + 1) parts
 
 -- whether a line has words
 abbrev pub has_words : TextLine → Bool
@@ -66,13 +66,13 @@ has_words line = nat_lt 0 (length line.words)
 
 -- the lines that have words; lines without words count, too
 unfoldable pub lines_of : List ℕ → List TextLine
-lines_of bytes = filter has_words (numbered 1 (placed 0 (slice_split ends_line bytes)))
+lines_of bytes = filter has_words (lines_from 1 (parts_from 0 (slice_split ends_line bytes)))
 
 -- the number of the first line that has a byte that isn't allowed
 abbrev pub first_faulty : ℕ → List (List ℕ) → Option ℕ
 first_faulty number [] = None
 first_faulty number (line ∷ lines) =
-    if list_all is_allowed (looked_at line) then first_faulty (number + 1) lines else Some number
+    if list_all is_allowed (content_of line) then first_faulty (number + 1) lines else Some number
 
 -- the same, of the lines of a text
 unfoldable pub faulty_line : List ℕ → Option ℕ

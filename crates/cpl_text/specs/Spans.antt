@@ -3,8 +3,8 @@ use Rattle.std.specs.Prelude.{◌≡◌, ℕ, ◌≤◌, List, length, map, slic
 use Rattle.std.specs.List.{All}
 use Rattle.cpl_text.specs.declared.text_lines.Line.{Line}
 use Rattle.cpl_text.specs.declared.text_lines.Word.{Word}
-use Rattle.cpl_text.specs.declared.text_lines.TextFault.{TextFault}
-use Rattle.cpl_text.specs.declared.text_lines.TextFault.TheVariants.{NotAscii, Memory}
+use Rattle.cpl_text.specs.declared.fault.TextFault.{TextFault}
+use Rattle.cpl_text.specs.declared.fault.TextFault.TheVariants.{NotAscii, Memory}
 use Rattle.cpl_text.specs.Lines.{Part, TextLine, lines_of, faulty_line}
 
 -- the part of a text that a span names

@@ -3,8 +3,10 @@
 //! What the words mean is no matter of this crate.
 #![tactic(auto)]
 
-mod rows;
+mod examples;
+mod fault;
 mod text_lines;
 
-pub use rows::text_rows;
-pub use text_lines::{Line, TextFault, Word, lines};
+pub use examples::text_examples;
+pub use fault::TextFault;
+pub use text_lines::{Line, Word, lines};

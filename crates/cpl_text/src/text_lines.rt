@@ -6,11 +6,11 @@
 ghost use Rattle.std.specs.Prelude.{◌≡◌, ◌+◌, ◌-◌, ◌^◌, ◌<◌, length, map, position, IfOk, IfErr, OnOk};
 ghost use Rattle.std.specs.List.{All, list_all};
 ghost use Rattle.std.specs.Str.Lines.{strip_carriage_return};
-ghost use Rattle.cpl_text.specs.declared.text_lines.TextFault.TheVariants.{Memory as OutOfMemory};
-ghost use Rattle.cpl_text.specs.Lines.{begins_comment, faulty_line, is_allowed as is_allowed_byte, looked_at as looked_at_of, words_at};
+ghost use Rattle.cpl_text.specs.Lines.{begins_comment, faulty_line, content_of, is_allowed, words_at};
 ghost use Rattle.cpl_text.specs.Spans.{IsCaused, IsLines, StandsIn, line_in, span_of};
 
-use std::alloc::{AllocError, AllocFailed, Global};
+use crate::fault::TextFault;
+use std::alloc::{AllocError, Global};
 
 /// A word: the places in the text where it begins and where it ends, the end not included.
 #[derive(Clone, Copy, Debug, PartialEq, Eq)]
@@ -30,32 +30,39 @@ pub struct Line {
     pub words: Vec<Word>,
 }
 
-/// Why a text has no lines.
-#[derive(Clone, Copy, Debug, PartialEq, Eq)]
-pub enum TextFault {
-    /// The first line with a byte outside comments that is neither a tab nor from the space to `~`.
-    NotAscii {
-        /// The number of the line, counted from 1.
-        line: u32,
-    },
-    /// Want of memory.
-    Memory,
-}
-
-impl From<AllocError> for TextFault {
-    ghost from_gives = { λ _ fault. fault ≡ OutOfMemory };
-
-    fn from(_error: AllocError) -> TextFault {
-        TextFault::Memory
+/// The lines of a text that have words, each with its words; linear in the text's length, with at most
+/// one allocation for each line. The text has fewer than 2^32 - 1 bytes.
+///
+/// Errors: `NotAscii` exactly where a byte outside comments is neither a tab nor from the space to `~`,
+/// with the number of the first such line.
+///
+/// Source: this project's own; ends of lines and comments are those of the ESMF Reference Manual,
+/// Config class.
+pub fn lines(alloc: Global, bytes: &[u8]) -> Result<Vec<Line>, TextFault>
+    requires { length bytes.now < 2 ^ 32 - 1 }
+    ensures ok { IfOk result (λ lines. IsLines bytes.now lines.items) }
+    // Each word lies within the text and is what stands between its ends.
+    ensures stand { IfOk result (λ lines. All (λ line. StandsIn bytes.now (line_in bytes.now line)) lines.items) }
+    ensures fault { IfErr result (IsCaused (faulty_line bytes.now)) }
+{
+    let mut lines = Vec::new(alloc);
+    let mut words = Vec::new(alloc);
+    let mut number = 0u32;
+    let mut start = 0usize;
+    for line in bytes.split(|byte| *byte == b'\n') {
+        number += 1;
+        let text = content_of(line);
+        if !are_allowed(text) {
+            return Err(TextFault::NotAscii { line: number });
+        }
+        read_words(&mut words, start, text)?;
+        if !words.is_empty() {
+            let words = Vec::from_slice(alloc, words.as_slice())?;
+            lines.push(Line { number, words })?;
+        }
+        start += line.len() + 1;
     }
-}
-
-impl<T: Drop> From<AllocFailed<T>> for TextFault {
-    ghost from_gives = { λ _ fault. fault ≡ OutOfMemory };
-
-    fn from(_failed: AllocFailed<T>) -> TextFault {
-        TextFault::Memory
-    }
+    Ok(lines)
 }
 
 /// What stands between two line feeds, without the CR that ends it.
@@ -76,8 +83,8 @@ fn comment_place(line: &[u8]) -> Option<usize>
 }
 
 /// What is looked at of what stands between two line feeds: neither the CR that ends it nor a comment.
-fn looked_at(line: &[u8]) -> &[u8]
-    ensures { result.now ≡ looked_at_of line.now }
+fn content_of(line: &[u8]) -> &[u8]
+    ensures { result.now ≡ content_of line.now }
 {
     let line = without_return(line);
     match comment_place(line) {
@@ -87,8 +94,8 @@ fn looked_at(line: &[u8]) -> &[u8]
 }
 
 /// Whether each byte is a tab or from the space to `~`.
-fn is_allowed(text: &[u8]) -> bool
-    ensures { result ≡ list_all is_allowed_byte text.now }
+fn are_allowed(text: &[u8]) -> bool
+    ensures { result ≡ list_all is_allowed text.now }
 {
     text.iter()
         .all(|byte| (b' ' <= *byte && *byte <= b'~') || *byte == b'\t')
@@ -109,39 +116,4 @@ fn read_words(words: &mut Vec<Word>, start: usize, text: &[u8]) -> Result<(), Al
         place = end + 1;
     }
     Ok(())
-}
-
-/// The lines of a text that have words, each with its words; linear in the text's length, with one
-/// allocation for each line at most. The text has fewer than 2^32 - 1 bytes.
-///
-/// Errors: `NotAscii` exactly where a byte outside comments is neither a tab nor from the space to `~`,
-/// with the number of the first such line.
-///
-/// Source: this project's own; ends of lines and comments are those of the ESMF Reference Manual,
-/// Config class.
-pub fn lines(alloc: Global, bytes: &[u8]) -> Result<Vec<Line>, TextFault>
-    requires { length bytes.now < 2 ^ 32 - 1 }
-    ensures ok { IfOk result (λ lines. IsLines bytes.now lines.items) }
-    // Each word lies within the text and is what stands between its ends.
-    ensures stand { IfOk result (λ lines. All (λ line. StandsIn bytes.now (line_in bytes.now line)) lines.items) }
-    ensures fault { IfErr result (IsCaused (faulty_line bytes.now)) }
-{
-    let mut lines = Vec::new(alloc);
-    let mut words = Vec::new(alloc);
-    let mut number = 0u32;
-    let mut start = 0usize;
-    for line in bytes.split(|byte| *byte == b'\n') {
-        number += 1;
-        let text = looked_at(line);
-        if !is_allowed(text) {
-            return Err(TextFault::NotAscii { line: number });
-        }
-        read_words(&mut words, start, text)?;
-        if !words.is_empty() {
-            let words = Vec::from_slice(alloc, words.as_slice())?;
-            lines.push(Line { number, words })?;
-        }
-        start += line.len() + 1;
-    }
-    Ok(lines)
 }

@@ -38,7 +38,7 @@ fn read_of(k: u16) -> Read {
 /// Appends the k-th read, times its number.
 fn put_term(text: &mut Vec<u8>, k: u16) -> Result<(), Fail> {
     let field = k / 25;
-    write_number(text, u64::from(k)).ok().ok_or("memory")?;
+    write_number(text, u128::from(k))?;
     text.push(b'*')?;
     text.push(*LETTERS.get(field as usize).unwrap_or(&b'$'))?;
     text.extend_from_slice(offsets(k % 25))?;
@@ -113,7 +113,7 @@ fn both_sums(alloc: Global) -> Result<Vec<u8>, Fail> {
 fn fields(alloc: Global) -> Result<Vec<Text>, Fail> {
     let mut fields = Vec::new(alloc);
     for letter in LETTERS {
-        fields.push(Text::of(alloc, &[*letter]).ok().ok_or("memory")?)?;
+        fields.push(Text::of(alloc, &[*letter])?)?;
     }
     Ok(fields)
 }

@@ -5,8 +5,8 @@ ghost use Rattle.std.specs.List.{All};
 ghost use Rattle.cpl_base.specs.Numbers.{IsValue};
 ghost use Rattle.cpl_formula.specs.Tree.{is_over};
 
-use cpl_base::Text;
-use cpl_formula::{FormulaFault, Parsed, parse, value};
+use cpl_base::{Memory, Text};
+use cpl_formula::{Argument, FormulaFault, Parsed, parse, read_argument, value};
 use std::alloc::Global;
 use std::test::Fail;
 
@@ -16,22 +16,35 @@ const LONGEST: usize = 16_777_216;
 /// The greatest value, in millionths.
 pub const GREATEST: i64 = 1_000_000_000_000_000;
 
-/// A text over the fields `x`, `y`, `flux`, `temp` and `y2` and the alarms `a` and `daily`.
+/// The fields of these tests: `x`, `y`, `flux`, `temp` and `y2`.
+fn fields(alloc: Global) -> Result<[Text; 5], Memory> {
+    Ok([
+        Text::of(alloc, b"x")?,
+        Text::of(alloc, b"y")?,
+        Text::of(alloc, b"flux")?,
+        Text::of(alloc, b"temp")?,
+        Text::of(alloc, b"y2")?,
+    ])
+}
+
+/// Their alarms: `a` and `daily`.
+fn alarms(alloc: Global) -> Result<[Text; 2], Memory> {
+    Ok([Text::of(alloc, b"a")?, Text::of(alloc, b"daily")?])
+}
+
+/// A text over these fields and alarms.
 pub fn read(alloc: Global, text: &[u8]) -> Result<Parsed, FormulaFault>
     ensures { IfOk result (λ p. IsTrue (is_over (length p.reads) p.tree)) }
 {
     if text.len() > LONGEST {
         return Err(FormulaFault::Memory);
     }
-    let fields = [
-        Text::of(alloc, b"x")?,
-        Text::of(alloc, b"y")?,
-        Text::of(alloc, b"flux")?,
-        Text::of(alloc, b"temp")?,
-        Text::of(alloc, b"y2")?,
-    ];
-    let alarms = [Text::of(alloc, b"a")?, Text::of(alloc, b"daily")?];
-    parse(alloc, text, &fields, &alarms)
+    parse(alloc, text, &fields(alloc)?, &alarms(alloc)?)
+}
+
+/// A word at a place, as an argument over these fields and alarms.
+pub fn argument(alloc: Global, word: &[u8], at: u32) -> Result<Argument, FormulaFault> {
+    read_argument(word, at, &fields(alloc)?, &alarms(alloc)?)
 }
 
 /// Whether these are values.

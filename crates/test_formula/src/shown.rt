@@ -1,9 +1,9 @@
 //! What is read of a text, in print: `(x + 1) | x` is a tree with all its brackets and then its reads,
-//! `Syntax 4` a fault and its place.
+//! `Syntax 4` a fault and its place. An argument of a native rule is in print as its number or its read alone.
 
-use crate::reading::read;
+use crate::reading::{argument, read};
 use cpl_base::{write_number, write_val};
-use cpl_formula::{Formula, FormulaFault, Parsed, Read, ReadName};
+use cpl_formula::{Argument, Formula, FormulaFault, Parsed, Read, ReadName};
 use std::alloc::Global;
 use std::test::Fail;
 
@@ -59,10 +59,7 @@ fn put_offset(out: &mut Vec<u8>, offset: i8) -> Result<(), Fail> {
     if offset < 0 {
         out.push(b'-')?;
     }
-    write_number(out, u64::from(offset.unsigned_abs()))
-        .ok()
-        .ok_or("memory")?;
-    Ok(())
+    Ok(write_number(out, u128::from(offset.unsigned_abs()))?)
 }
 
 /// Appends a read, with its offsets where it isn't at the cell itself.
@@ -80,12 +77,11 @@ fn put_read(out: &mut Vec<u8>, read: &Read) -> Result<(), Fail> {
 
 /// Appends a number of millionths, whole units without their places.
 fn put_number(out: &mut Vec<u8>, number: i64) -> Result<(), Fail> {
-    let written = if number >= 0 && number % MILLION == 0 {
-        write_number(out, (number / MILLION) as u64)
+    if number >= 0 && number % MILLION == 0 {
+        write_number(out, (number / MILLION) as u128)?;
     } else {
-        write_val(out, i128::from(number))
-    };
-    written.ok().ok_or("memory")?;
+        write_val(out, i128::from(number))?;
+    }
     Ok(())
 }
 
@@ -164,8 +160,7 @@ fn put_fault(out: &mut Vec<u8>, fault: FormulaFault) -> Result<(), Fail> {
         FormulaFault::Memory => return Ok(out.extend_from_slice(b"Memory")?),
     };
     out.extend_from_slice(name)?;
-    write_number(out, u64::from(at)).ok().ok_or("memory")?;
-    Ok(())
+    Ok(write_number(out, u128::from(at))?)
 }
 
 /// What is read of a text, in print.
@@ -174,6 +169,17 @@ pub fn shown(alloc: Global, text: &[u8]) -> Result<Vec<u8>, Fail> {
     match &read(alloc, text) {
         Ok(parsed) => put_parsed(&mut out, parsed)?,
         Err(fault) => put_fault(&mut out, *fault)?,
+    }
+    Ok(out)
+}
+
+/// What a word at a place stands for as an argument, in print.
+pub fn shown_argument(alloc: Global, word: &[u8], at: u32) -> Result<Vec<u8>, Fail> {
+    let mut out = Vec::new(alloc);
+    match argument(alloc, word, at) {
+        Ok(Argument::Number(number)) => put_number(&mut out, number)?,
+        Ok(Argument::Cell(read)) => put_read(&mut out, &read)?,
+        Err(fault) => put_fault(&mut out, fault)?,
     }
     Ok(out)
 }

@@ -1,10 +1,15 @@
-//! Blocks with and without cells, neighbours, and all divisions of small grids against a plain walk.
+//! Blocks with and without cells, parts, neighbours, and all divisions of small grids against plain
+//! walks.
 
-ghost use Rattle.std.specs.Prelude.{◌≡◌, ◌*◌, ◌<◌, ◌≤◌, length};
+ghost use Rattle.std.specs.Prelude.{◌≡◌, ◌*◌, ◌<◌, ◌≤◌, IfSome, length};
 ghost use Rattle.cpl_grid.specs.Grid.{IsCell, IsGrid};
-ghost use Rattle.cpl_grid.specs.Owners.{IsPet, cells_of};
+ghost use Rattle.cpl_grid.specs.Owners.{IsPet, cells_of, part_of};
+ghost use Rattle.cpl_grid.specs.Parts.{part_cell};
 
-use cpl_grid::{BlocksMismatch, Decomp, Grid, decomposition_laws, grid_rows};
+use cpl_grid::{
+    Block, BlocksMismatch, Decomp, Grid, Part, decomposition_laws, grid_examples, numbering_laws,
+    part_laws,
+};
 use std::process::Abort;
 use std::test::Fail;
 
@@ -51,6 +56,19 @@ fn cell_again(decomp: &Decomp, s: u32) -> u32
     decomp.cell(decomp.owner(s), decomp.local(s))
 }
 
+/// The cell in a column and a row of the part of a PET, both from 0.
+fn cell_in_part(decomp: &Decomp, pet: u8, i: u32, j: u32) -> Option<u32>
+    requires { IsPet decomp.now pet }
+    ensures { IfSome result (λ s. s ≡ part_cell decomp.now.grid (part_of decomp.now pet) i j) }
+{
+    let part = decomp.part(pet);
+    if i < part.columns.length && j < part.rows.length {
+        Some(decomp.cell(pet, i + j * part.columns.length))
+    } else {
+        None
+    }
+}
+
 /// Compares each answer about a cell with what a walk over all cells finds, and gives how many cells
 /// the walk found for each PET.
 fn compare_cells(rt: &impl Abort, decomp: &Decomp, px: u32, py: u32, first_pet: u8) -> [u32; 64]
@@ -94,6 +112,53 @@ fn compare_counts(rt: &impl Abort, decomp: &Decomp, first_pet: u8, pets: u8, fou
     }
 }
 
+/// The part of these columns and rows.
+fn part(columns: (u32, u32), rows: (u32, u32)) -> Part {
+    let (left, width) = columns;
+    let (top, height) = rows;
+    Part {
+        columns: Block {
+            start: left,
+            length: width,
+        },
+        rows: Block {
+            start: top,
+            length: height,
+        },
+    }
+}
+
+/// Walks the part of a PET row by row, and compares each cell with the one at its place in the PET's
+/// list.
+fn compare_walk(rt: &impl Abort, decomp: &Decomp, pet: u8)
+    requires { IsPet decomp.now pet }
+{
+    let grid = decomp.grid();
+    let part = decomp.part(pet);
+    let count = decomp.count(pet);
+    let mut k: u32 = 0;
+    for j in 0..part.rows.length {
+        for i in 0..part.columns.length {
+            let row = u64::from(part.rows.start + j);
+            let column = u64::from(part.columns.start + i);
+            assert!(rt; k < count);
+            let cell = decomp.cell(pet, k);
+            assert_eq!(rt; u64::from(cell), 1 + column + row * u64::from(grid.nx));
+            assert_eq!(rt; cell_in_part(decomp, pet, i, j), Some(cell));
+            k = k.saturating_add(1);
+        }
+    }
+    assert_eq!(rt; k, count);
+}
+
+/// Walks the part of each PET.
+fn compare_walks(rt: &impl Abort, decomp: &Decomp) {
+    let first_pet = decomp.first_pet();
+    for pet in first_pet..first_pet + decomp.pets() {
+        compare_walk(rt, decomp, pet);
+    }
+}
+
 /// Compares all divisions of a grid into at most six by six blocks, which end with the last PET.
 fn compare_divisions(rt: &impl Abort, grid: Grid)
     requires { IsGrid grid }
@@ -107,6 +172,9 @@ fn compare_divisions(rt: &impl Abort, grid: Grid)
             if let Ok(decomp) = made {
                 let found = compare_cells(rt, &decomp, px, py, first_pet);
                 compare_counts(rt, &decomp, first_pet, pets, &found);
+                assert_eq!(rt; decomp.first_pet(), first_pet);
+                assert_eq!(rt; decomp.pets(), pets);
+                compare_walks(rt, &decomp);
             }
         }
     }
@@ -115,7 +183,7 @@ fn compare_divisions(rt: &impl Abort, grid: Grid)
 #[test]
 fn blocks_of_one_one_and_no_cells(rt: HostRuntime) -> Result<(), Fail> {
     let grid = small(2, 1, false);
-    let decomp = Decomp::new(grid, 3, 1, 0, 3).ok().ok_or("blocks")?;
+    let decomp = Decomp::new(grid, 3, 1, 0, 3)?;
     assert_eq!(rt; decomp.grid(), grid);
     assert_eq!(rt; decomp.count(0), 1);
     assert_eq!(rt; decomp.count(1), 1);
@@ -135,8 +203,68 @@ fn blocks_of_one_one_and_no_cells(rt: HostRuntime) -> Result<(), Fail> {
         })
     );
     decomposition_laws(&decomp);
-    grid_rows();
+    part_laws(&grid);
+    numbering_laws(&grid);
+    grid_examples();
     Ok(())
+}
+
+#[test]
+fn parts(rt: HostRuntime) -> Result<(), Fail> {
+    let five = Decomp::new(small(5, 1, true), 3, 1, 4, 3)?;
+    assert_eq!(rt; five.first_pet(), 4);
+    assert_eq!(rt; five.pets(), 3);
+    assert_eq!(rt; five.part(4), part((0, 2), (0, 1)));
+    assert_eq!(rt; five.part(5), part((2, 2), (0, 1)));
+    assert_eq!(rt; five.part(6), part((4, 1), (0, 1)));
+    let two = Decomp::new(small(2, 2, false), 3, 1, 0, 3)?;
+    assert_eq!(rt; two.part(1), part((1, 1), (0, 2)));
+    assert_eq!(rt; two.part(2), part((2, 0), (0, 2)));
+    let both = Decomp::new(small(4, 3, false), 3, 2, 58, 6)?;
+    assert_eq!(rt; both.first_pet(), 58);
+    assert_eq!(rt; both.pets(), 6);
+    assert_eq!(rt; both.part(58), part((0, 2), (0, 2)));
+    assert_eq!(rt; both.part(59), part((2, 1), (0, 2)));
+    assert_eq!(rt; both.part(61), part((0, 2), (2, 1)));
+    assert_eq!(rt; both.part(63), part((3, 1), (2, 1)));
+    Ok(())
+}
+
+#[test]
+fn columns_and_rows(rt: HostRuntime) {
+    let ring = small(5, 3, true);
+    let plain = small(5, 3, false);
+    for (i, dx, on_ring, on_plain) in [
+        (1, 0, 1, 1),
+        (1, -1, 5, 1),
+        (2, -2, 5, 1),
+        (4, 2, 1, 5),
+        (3, 2, 5, 5),
+        (7, -2, 5, 5),
+        (7, 0, 2, 5),
+        (0, 0, 5, 1),
+        (4_294_967_295, 127, 2, 5),
+    ] {
+        assert_eq!(rt; ring.column_to(i, dx), on_ring, "at {i} {dx}");
+        assert_eq!(rt; plain.column_to(i, dx), on_plain, "at {i} {dx}");
+    }
+    for (j, dy, row) in [
+        (1, 0, 1),
+        (1, -1, 1),
+        (2, -2, 1),
+        (2, 1, 3),
+        (2, 2, 3),
+        (5, -1, 3),
+        (0, 0, 1),
+        (4_294_967_295, -128, 3),
+    ] {
+        assert_eq!(rt; ring.row_to(j, dy), row, "at {j} {dy}");
+        assert_eq!(rt; plain.row_to(j, dy), row, "at {j} {dy}");
+    }
+    let one = small(1, 2, true);
+    for dx in [-2, -1, 0, 1, 2] {
+        assert_eq!(rt; one.column_to(1, dx), 1, "at {dx}");
+    }
 }
 
 #[test]
@@ -161,6 +289,25 @@ fn neighbours(rt: HostRuntime) {
     for dx in [-2, -1, 0, 1, 2] {
         assert_eq!(rt; one.neighbour(1, dx, dx), 1);
     }
+}
+
+#[test]
+fn corners(rt: HostRuntime) {
+    let ring = small(3, 2, true);
+    let plain = small(3, 2, false);
+    for (s, dx, dy, on_ring, on_plain) in [
+        (1, -1, -1, 3, 1),
+        (3, 1, -1, 1, 3),
+        (4, -1, 1, 6, 4),
+        (6, 1, 1, 4, 6),
+        (1, -1, 2, 6, 4),
+    ] {
+        assert_eq!(rt; ring.neighbour(s, dx, dy), on_ring);
+        assert_eq!(rt; plain.neighbour(s, dx, dy), on_plain);
+    }
+    let column = small(1, 3, true);
+    assert_eq!(rt; column.neighbour(2, -2, -1), 1);
+    assert_eq!(rt; column.neighbour(2, 1, 2), 3);
 }
 
 #[test]

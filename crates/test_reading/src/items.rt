@@ -1,7 +1,7 @@
 //! Value items and tables.
 
 use cpl_base::write_number;
-use cpl_config::{ItemFault, Items, Row, item_rows, read_items};
+use cpl_config::{Item, ItemFault, Items, Row, item_examples, read_items};
 use cpl_text::{TextFault, lines};
 use std::alloc::Global;
 use std::process::Abort;
@@ -78,12 +78,71 @@ fn items_of_a_file(rt: HostRuntime) {
     if let Ok(items) = &items {
         expect_one_cell(&rt, items);
     }
-    item_rows();
+    item_examples();
+}
+
+/// Appends the words of a row, each behind a blank.
+fn push_words(text: &mut Vec<u8>, row: &Row) -> Result<(), Fail> {
+    for word in row.words.items() {
+        text.push(b' ')?;
+        text.extend_from_slice(word.bytes())?;
+    }
+    Ok(text.push(b'\n')?)
+}
+
+/// Appends an item behind its label.
+fn push_item(text: &mut Vec<u8>, item: &Item) -> Result<(), Fail> {
+    match item {
+        Item::Values(row) => push_words(text, row),
+        Item::Rows(table) => {
+            text.extend_from_slice(b":\n")?;
+            for row in table.rows.items() {
+                push_words(text, row)?;
+            }
+            Ok(text.extend_from_slice(b"::\n")?)
+        }
+    }
+}
+
+/// Items as a text of which they are the items, in their order.
+fn shown(alloc: Global, items: &Items) -> Result<Vec<u8>, Fail> {
+    let mut text = Vec::new(alloc);
+    for entry in items.entries() {
+        text.extend_from_slice(entry.label.bytes())?;
+        text.push(b':')?;
+        push_item(&mut text, &entry.item)?;
+    }
+    Ok(text)
+}
+
+#[test]
+fn order_of_items(rt: HostRuntime) -> Result<(), Fail> {
+    let alloc = rt.alloc();
+    let cases: [(&[u8], &[u8]); 5] = [
+        (b"", b""),
+        (b"b: 1\na:2 3\n", b"b: 1\na: 2 3\n"),
+        (b"t::\n::\na:\n", b"t::\n::\na:\n"),
+        (
+            b"z: 1\na::\n x\ty # w\n\n b: \n::\na: 2\nz::\n::\n:::\n::",
+            b"z: 1\na::\n x y\n b:\n::\na: 2\nz::\n::\n:::\n::\n",
+        ),
+        (
+            b"c::\n 3\n::\nb::\n 2\n::\na::\n 1\n::\nb: 4\n",
+            b"c::\n 3\n::\nb::\n 2\n::\na::\n 1\n::\nb: 4\n",
+        ),
+    ];
+    for (bytes, wanted) in cases {
+        let text = shown(alloc, &items(alloc, bytes)?)?;
+        assert_eq!(rt; text.as_slice(), wanted);
+        let again = shown(alloc, &items(alloc, text.as_slice())?)?;
+        assert_eq!(rt; again.as_slice(), wanted);
+    }
+    Ok(())
 }
 
 #[test]
 fn files_that_are_refused(rt: HostRuntime) {
-    let rows: [(&[u8], ItemFault); 10] = [
+    let cases: [(&[u8], ItemFault); 10] = [
         (b"a: 1\nA_grid 1 1\n", ItemFault::BadLine { line: 2 }),
         (b"a:: b\n::\n", ItemFault::BadLine { line: 1 }),
         (b":x\n", ItemFault::BadLine { line: 1 }),
@@ -98,7 +157,7 @@ fn files_that_are_refused(rt: HostRuntime) {
         (b"a: 1\nb::\nc\n", ItemFault::Unclosed { line: 2 }),
         (b"a b\nb::\nc\n", ItemFault::BadLine { line: 1 }),
     ];
-    for (bytes, wanted) in rows {
+    for (bytes, wanted) in cases {
         assert_eq!(rt; refusal(rt.alloc(), bytes), Some(Refused::Items(wanted)));
     }
     let not_ascii: [(&[u8], u32); 2] = [(b"x = 0\xE9\n", 1), (b"a: 1\n::\n\xE9", 3)];
@@ -113,9 +172,9 @@ fn many_labels(alloc: Global, count: u64) -> Result<Vec<u8>, Fail> {
     let mut text = Vec::new(alloc);
     for number in 0..count {
         text.extend_from_slice(b"label")?;
-        write_number(&mut text, number).ok().ok_or("memory")?;
+        write_number(&mut text, u128::from(number))?;
         text.extend_from_slice(b": value ")?;
-        write_number(&mut text, number).ok().ok_or("memory")?;
+        write_number(&mut text, u128::from(number))?;
         text.push(b'\n')?;
     }
     Ok(text)
@@ -131,6 +190,7 @@ fn a_text_of_many_labels(rt: HostRuntime) -> Result<(), Fail> {
     if let Ok(items) = &items {
         assert!(rt; is_row(items.value(b"label199999"), 200_000, &[b"value", b"199999"]));
         assert!(rt; items.value(b"label200000").is_none());
+        assert_eq!(rt; items.entries().len(), 200_000);
     }
     Ok(())
 }

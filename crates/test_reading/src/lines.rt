@@ -1,6 +1,6 @@
 //! Lines and words.
 
-use cpl_text::{TextFault, lines, text_rows};
+use cpl_text::{TextFault, lines, text_examples};
 use std::alloc::Global;
 use std::process::Abort;
 use std::test::Fail;
@@ -53,7 +53,7 @@ fn words_of_lines(rt: HostRuntime) -> Result<(), Fail> {
     for (bytes, wanted) in rows {
         expect_shown(&rt, rt.alloc(), bytes, wanted)?;
     }
-    text_rows();
+    text_examples();
     Ok(())
 }
 

@@ -2,11 +2,12 @@
 
 ghost use Rattle.std.specs.Prelude.{◌≤◌, ◌≤ℤ◌, ◌<ℤ◌, ◌^◌, pos, length, IfOk, IfSome};
 ghost use Rattle.cpl_runseq.specs.Asked.{HasFewPhases, IsStep};
-ghost use Rattle.cpl_runseq.specs.Left.{IsOf};
+ghost use Rattle.cpl_runseq.specs.Remainder.{IsCursorOf};
 
 use cpl_base::{Many, Memory, Text};
 use cpl_config::{Items, read_items};
-use cpl_runseq::{Cursor, Op, Seq, SeqFault, SeqName, read_sequence, reading_rows, sequence_rows};
+use cpl_runseq::{Cursor, Method, Op, Seq, SeqFault, SeqName, read_sequence, reading_examples};
+use cpl_sequence::sequence_examples;
 use cpl_text::lines;
 use std::alloc::Global;
 use std::process::Abort;
@@ -22,8 +23,6 @@ enum Refused {
     Items,
     /// Its rows aren't in order.
     Rows(SeqFault),
-    /// The test asks for what can't be read.
-    Asked,
 }
 
 impl From<Memory> for Refused {
@@ -40,9 +39,9 @@ fn component(alloc: Global, name: &[u8], two: bool, substep: Option<i64>) -> Res
     ensures steps { IfOk result (λ name. IfSome name.substep IsStep) }
 {
     let mut phases = Vec::new(alloc);
-    phases.push(Text::of(alloc, b"first")?).ok().ok_or(Memory)?;
+    phases.push(Text::of(alloc, b"first")?)?;
     if two {
-        phases.push(Text::of(alloc, b"second")?).ok().ok_or(Memory)?;
+        phases.push(Text::of(alloc, b"second")?)?;
     }
     Ok(SeqName {
         name: Text::of(alloc, name)?,
@@ -51,8 +50,8 @@ fn component(alloc: Global, name: &[u8], two: bool, substep: Option<i64>) -> Res
     })
 }
 
-/// The sequence of the table `runSeq` over the components A, of two phases, B, whose steps cover two
-/// seconds at the most, and C.
+/// The sequence of the table `runSeq` over the components A, of two phases, B, whose steps cover at most
+/// two seconds, and C.
 fn sequence_in(
     alloc: Global,
     items: &Items,
@@ -64,9 +63,6 @@ fn sequence_in(
     requires step { IfSome time_step IsStep }
 {
     let rows = items.table(b"runSeq").unwrap_or(&[]);
-    if rows.len() > 1_000_000 {
-        return Err(Refused::Asked);
-    }
     let names = [
         component(alloc, b"A", true, None)?,
         component(alloc, b"B", false, Some(2))?,
@@ -90,7 +86,7 @@ fn sequence(
     requires step { IfSome time_step IsStep }
 {
     if text.len() > 16_777_216 {
-        return Err(Refused::Asked);
+        return Err(Refused::Items);
     }
     match lines(alloc, text) {
         Ok(lines) => match &read_items(alloc, text, lines.as_slice()) {
@@ -99,6 +95,14 @@ fn sequence(
         },
         Err(_) => Err(Refused::Items),
     }
+}
+
+/// The sequence of a text, over a span below 2^40 seconds.
+fn sequence_over(alloc: Global, text: &[u8], span: Option<i64>) -> Result<Seq, Refused>
+    requires least { IfSome span (λ s. pos 1 ≤ℤ s) }
+    requires below { IfSome span (λ s. s <ℤ pos (2 ^ 40)) }
+{
+    sequence(alloc, text, span, None)
 }
 
 /// The k-th operation, if there is one.
@@ -112,7 +116,7 @@ fn operation(sequence: &Seq, k: u64) -> Option<Op> {
 
 /// Asserts that a cursor gives the operations in their order, and then nothing.
 fn follow(rt: &impl Abort, sequence: &Seq, cursor: &mut Cursor)
-    requires { IsOf sequence.now cursor.old }
+    requires { IsCursorOf sequence.now cursor.old }
 {
     'operations: for k in 0..sequence.op_count() {
         assert_eq!(rt; cursor.next(sequence), operation(sequence, k));
@@ -146,7 +150,7 @@ fn whole_step(component: u8, time: i64, step: i64) -> Op {
 
 #[test]
 fn rows_that_are_refused(rt: HostRuntime) {
-    let cases: [(&[u8], SeqFault); 22] = [
+    let cases: [(&[u8], SeqFault); 24] = [
         (b"runSeq::\n@\n::\n", SeqFault::LoopStray { line: 2 }),
         (b"runSeq::\n@0:4\n::\n", SeqFault::BadStep { line: 2 }),
         (b"runSeq::\n@@\n::\n", SeqFault::BadElement { line: 2 }),
@@ -192,8 +196,16 @@ fn rows_that_are_refused(rt: HostRuntime) {
             SeqFault::OptionsDiffer { line: 4 },
         ),
         (
-            b"runSeq::\n@1:1\nA -> C :remapMethod=weights:weightFile=a.csv\n::\n",
-            SeqFault::NotYetBuilt { line: 3 },
+            b"runSeq::\n@1:1\nA -> C :remapMethod=weights:weightFile=\n::\n",
+            SeqFault::BadElement { line: 3 },
+        ),
+        (
+            b"runSeq::\n@1:1\nA -> C :x=1->:y=2\n::\n",
+            SeqFault::BadElement { line: 3 },
+        ),
+        (
+            b"runSeq::\n@1:1\nA -> C :remapMethod=weights:weightFile=a.csv\nA -> C :remapMethod=weights:weightFile=b.csv\n::\n",
+            SeqFault::OptionsDiffer { line: 4 },
         ),
         (
             b"runSeq::\n@1:1\nA first B\n::\n",
@@ -216,57 +228,55 @@ fn rows_that_are_refused(rt: HostRuntime) {
         let refusal = sequence(rt.alloc(), text, None, None).err();
         assert_eq!(rt; refusal, Some(Refused::Rows(wanted)));
     }
-    reading_rows();
-    sequence_rows();
+    reading_examples();
+    sequence_examples();
 }
 
 #[test]
 fn spans_that_are_refused(rt: HostRuntime) {
-    let alloc = rt.alloc();
-    let uneven = sequence(alloc, b"runSeq::\n@7\nA\n@\n::\n", Some(3_600), None).err();
-    assert_eq!(rt;
-        uneven,
-        Some(Refused::Rows(SeqFault::StepUneven { line: 2 }))
-    );
-    let short = sequence(
-        alloc,
-        b"runSeq::\n@900:1800\nA\n@\n@900:900\nA\n@\n::\n",
-        Some(3_600),
-        None,
-    )
-    .err();
-    let have_want = SeqFault::SpanMismatch {
-        have: 2_700,
-        want: 3_600,
-    };
-    assert_eq!(rt; short, Some(Refused::Rows(have_want)));
-    let first = sequence(
-        alloc,
-        b"runSeq::\n@1\nA\n@\n@1:1\nA\n@\n::\n",
-        Some(5),
-        None,
-    )
-    .err();
-    assert_eq!(rt;
-        first,
-        Some(Refused::Rows(SeqFault::DurationMissing { line: 2 }))
-    );
-    let none = sequence(alloc, b"runSeq::\n::\n", None, None).err();
-    assert_eq!(rt;
-        none,
-        Some(Refused::Rows(SeqFault::SpanTooLong { span: 0 }))
-    );
-    let long = sequence(
-        alloc,
-        b"runSeq::\n@1:1000000000000\n@\n@1:1000000000000\n@\n::\n",
-        None,
-        None,
-    )
-    .err();
-    let span = SeqFault::SpanTooLong {
-        span: 2_000_000_000_000,
-    };
-    assert_eq!(rt; long, Some(Refused::Rows(span)));
+    let cases: [(&[u8], Option<i64>, SeqFault); 7] = [
+        (
+            b"runSeq::\n@7\nA\n@\n::\n",
+            Some(3_600),
+            SeqFault::StepUneven { line: 2 },
+        ),
+        (
+            b"runSeq::\n@900:1800\nA\n@\n@900:900\nA\n@\n::\n",
+            Some(3_600),
+            SeqFault::SpanMismatch {
+                have: 2_700,
+                want: 3_600,
+            },
+        ),
+        // Nothing is left for the last loop, whose step would not divide it either.
+        (
+            b"runSeq::\n@2:4\nA\n@\n@7\nA\n@\n::\n",
+            Some(3),
+            SeqFault::SpanMismatch { have: 4, want: 3 },
+        ),
+        (
+            b"runSeq::\n::\n",
+            Some(5),
+            SeqFault::SpanMismatch { have: 0, want: 5 },
+        ),
+        (
+            b"runSeq::\n@1\nA\n@\n@1:1\nA\n@\n::\n",
+            Some(5),
+            SeqFault::DurationMissing { line: 2 },
+        ),
+        (b"runSeq::\n::\n", None, SeqFault::SpanTooLong { span: 0 }),
+        (
+            b"runSeq::\n@1:1000000000000\n@\n@1:1000000000000\n@\n::\n",
+            None,
+            SeqFault::SpanTooLong {
+                span: 2_000_000_000_000,
+            },
+        ),
+    ];
+    for (text, span, wanted) in cases {
+        let refusal = sequence_over(rt.alloc(), text, span).err();
+        assert_eq!(rt; refusal, Some(Refused::Rows(wanted)));
+    }
 }
 
 /// Asserts that a text is a sequence of so many operations, with this one at place `k`.
@@ -313,18 +323,96 @@ fn operations_of_substeps_and_links(rt: HostRuntime) {
 }
 
 #[test]
-fn loops_in_which_nothing_runs(rt: HostRuntime) {
-    let alloc = rt.alloc();
-    let behind = b"runSeq::\n@1:200000000000\n@\n@1:1\nC\n@\n::\n";
-    expect_operation(&rt, alloc, behind, 1, 0, whole_step(2, 200_000_000_000, 1));
-    let deep =
-        b"runSeq::\n@1:200000000000\n@1\n@1\n@1\n@1\n@1\n@1\n@1\n@\n@\n@\n@\n@\n@\n@\n@\n::\n";
-    match &sequence(alloc, deep, Some(200_000_000_000), None) {
+fn links_and_their_options(rt: HostRuntime) {
+    let text =
+        b"runSeq::\n@1:1\nA->B :\nA -> C :remapMethod=weights:weightFile=w.csv:srcTermProcessing=-2\nB -> C :weightFile=a.csv\nB -> C :WEIGHTFILE=b.csv\n@\n::\n";
+    let wanted: [(u8, u8, Method, &[u8], i64, u32); 3] = [
+        (0, 1, Method::Redist, b"", 0, 3),
+        (0, 2, Method::Weights, b"w.csv", -2, 4),
+        (1, 2, Method::Redist, b"", 0, 5),
+    ];
+    match &sequence(rt.alloc(), text, None, None) {
         Ok(sequence) => {
-            assert_eq!(rt; sequence.span(), 200_000_000_000);
-            expect_count(&rt, alloc, sequence, 0);
+            assert_eq!(rt; sequence.links().len(), wanted.len());
+            for ((src, dst, method, file, terms, line), link) in wanted
+                .iter()
+                .zip(sequence.links())
+            {
+                assert!(rt; link.src == *src && link.dst == *dst && link.line == *line);
+                assert!(rt;
+                    link.method == *method && link.file.bytes() == *file && link.terms == *terms
+                );
+            }
         }
         Err(_) => panic!(rt; "refused"),
+    }
+}
+
+/// Asserts that a text is a sequence that lasts so long and has so many operations, with this one at place
+/// `k`, and that a cursor gives each of them.
+fn expect_span(
+    rt: &impl Abort,
+    alloc: Global,
+    text: &[u8],
+    span: i64,
+    count: u64,
+    k: u64,
+    wanted: Option<Op>,
+) {
+    match &sequence(alloc, text, None, None) {
+        Ok(sequence) => {
+            assert_eq!(rt; sequence.span(), span);
+            expect_count(rt, alloc, sequence, count);
+            assert_eq!(rt; operation(sequence, k), wanted);
+        }
+        Err(_) => panic!(rt; "refused"),
+    }
+}
+
+#[test]
+fn loops_in_which_nothing_runs(rt: HostRuntime) {
+    let cases: [(&[u8], i64, u64, u64, Option<Op>); 5] = [
+        // A top loop stays, and its time passes.
+        (
+            b"runSeq::\n@1:200000000000\n@\n@1:1\nC\n@\n::\n",
+            200_000_000_001,
+            1,
+            0,
+            Some(whole_step(2, 200_000_000_000, 1)),
+        ),
+        // Nested ones go, however deep.
+        (
+            b"runSeq::\n@1000000000:200000000000\n@1\n@1\n@1\n@1\n@1\n@1\n@1\n@\n@\n@\n@\n@\n@\n@\n@\n::\n",
+            200_000_000_000,
+            0,
+            0,
+            None,
+        ),
+        (
+            b"runSeq::\n@500000000:1000000000\n@1\n@\nC\n@1:250000000\n@1\n@\n@\n@\n::\n",
+            1_000_000_000,
+            2,
+            1,
+            Some(whole_step(2, 500_000_000, 500_000_000)),
+        ),
+        // Empty top loops before, between and behind others.
+        (
+            b"runSeq::\n@1:3\n@\n@2:2\n@\n@2:4\nA\nC\n@\n@1:1000\n@\n@1:1\n@\n@5:5\nA\n@\n@1:9\n@\n::\n",
+            1_024,
+            5,
+            4,
+            Some(whole_step(0, 1_010, 5)),
+        ),
+        (
+            b"runSeq::\n@4:8\nB\n@2\nA->C\n@1:1\n@\n@1:2\nC\n@1\n@\n@\n@\n@1:3\n@\nA\n@\n::\n",
+            8,
+            18,
+            16,
+            Some(whole_step(2, 7, 1)),
+        ),
+    ];
+    for (text, span, count, k, wanted) in cases {
+        expect_span(&rt, rt.alloc(), text, span, count, k, wanted);
     }
 }
 

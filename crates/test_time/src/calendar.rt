@@ -1,6 +1,6 @@
 //! Moments, their parts and their texts.
 
-use cpl_calendar::{Cal, Parts, TimeFault, calendar_rows, end_of, moment, parts, text_of};
+use cpl_calendar::{Cal, Parts, TimeFault, calendar_examples, end_of, moment, parts, text_of};
 
 /// Texts of each calendar with their moments, or with why they have none.
 #[test]
@@ -168,7 +168,7 @@ fn round_trips(rt: HostRuntime) {
 /// The last second of each calendar, in its parts.
 #[test]
 fn last_seconds(rt: HostRuntime) {
-    calendar_rows();
+    calendar_examples();
     for (cal, wanted, days) in [
         (Cal::Gregorian, 315_537_897_600, 31),
         (Cal::NoLeap, 315_328_464_000, 31),

@@ -1,13 +1,13 @@
 //! Clocks and alarms.
 
 use cpl_calendar::{Cal, end_of, moment};
-use cpl_clock::{Alarm, Clock, ClockFault, clock_rows};
+use cpl_clock::{Alarm, Clock, ClockFault, clock_examples};
 use std::test::Fail;
 
 /// A clock goes from its start to its stop.
 #[test]
 fn steps(rt: HostRuntime) -> Result<(), Fail> {
-    clock_rows();
+    clock_examples();
     assert_eq!(rt; Clock::new(0, 10, 0).err(), Some(ClockFault::StepZero));
     assert_eq!(rt; Clock::new(5, 5, 0).err(), Some(ClockFault::StepZero));
     assert_eq!(rt; Clock::new(5, 5, 1).err(), Some(ClockFault::StopNotAfter));

@@ -1,6 +1,6 @@
 use Rattle.std.proofs.Common.{◌+◌, add-one, arith, sym}
 use Rattle.std.proofs.lemmas.List.{take_rest}
-use Rattle.cpl_base.proofs.CutTexts.{cut_at-found, cut_at-none}
+use Rattle.cpl_base.proofs.CutFacts.{cut_at-found, cut_at-none}
 use Rattle.cpl_base.proofs.cuts.cut.Goals as goal
 
 pub returns-then-byte-at : goal.returns-then-byte-at

@@ -1,6 +1,6 @@
 use Rattle.std.proofs.Common.{arith}
 use Rattle.std.proofs.lemmas.Int.Digits.{digits_value_more}
-use Rattle.cpl_base.proofs.DigitTexts.{digit_value_at}
+use Rattle.cpl_base.proofs.DigitsFacts.{digit_value_at}
 use Rattle.cpl_base.proofs.digits.decimal.Goals as goal
 
 pub loop-digit-preserved : goal.loop-digit-preserved

@@ -2,7 +2,7 @@ use Rattle.std.proofs.Common.{◌<◌, ◌∙◌, length, rules, tests}
 use Rattle.std.proofs.lemmas.Iterator.{YieldsList-from_slice}
 use Rattle.std.proofs.lemmas.Iterator.Search.{all_from_yields_List}
 use Rattle.cpl_base.specs.Numerals.{is_digit}
-use Rattle.cpl_base.proofs.DigitTexts.{are_digits-nonempty}
+use Rattle.cpl_base.proofs.DigitsFacts.{are_digits-nonempty}
 use Rattle.cpl_base.proofs.digits.is_decimal.Goals as goal
 
 pub returns-then-not-is_empty : goal.returns-then-not-is_empty

@@ -1,7 +1,7 @@
 use Rattle.std.proofs.Common.{◌≡◌, pos, ap, rules, ◌∙◌}
 use Rattle.std.proofs.lemmas.Int.{to_z-of_z}
 use Rattle.std.specs.Int.{w64}
-use Rattle.cpl_base.proofs.Roundings.{quotient_of-signed}
+use Rattle.cpl_base.proofs.RoundingFacts.{quotient_of-signed}
 use Rattle.cpl_base.proofs.rounding.div.Goals as goal
 use mir.Val.{SFits, of_z}
 

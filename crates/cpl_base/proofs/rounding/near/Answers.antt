@@ -2,7 +2,7 @@ use Rattle.std.proofs.Common.{◌≡◌, ◌<◌, ◌^◌, ◌-ℤ◌, ℕ, pos,
 use Rattle.std.proofs.lemmas.Grind.{common_steps}
 use Rattle.std.proofs.lemmas.Int.{ints, to_z-of_z}
 use Rattle.std.specs.Int.{w128}
-use Rattle.cpl_base.proofs.Roundings.{near_of-below}
+use Rattle.cpl_base.proofs.RoundingFacts.{near_of-below}
 use Rattle.cpl_base.proofs.rounding.near.Goals as goal
 use mir.Val.{of_z, to_z}
 

@@ -1,5 +1,5 @@
 use Rattle.std.proofs.Common.{◌≡◌, sym, ap, ◌∙◌}
-use Rattle.cpl_base.proofs.Roundings.{nearest_size-less, nearest_size-more, passes_at}
+use Rattle.cpl_base.proofs.RoundingFacts.{nearest_size-less, nearest_size-more, passes_at}
 use Rattle.cpl_base.proofs.rounding.nearest_narrow.Goals as goal
 use Rattle.cpl_base.proofs.rounding.nearest_narrow.Goals.{then-half_up, else-half_up}
 

@@ -1,5 +1,5 @@
 use Rattle.std.proofs.Common.{◌≤◌, length, length-drop, ◌∙◌, arith}
-use Rattle.cpl_base.proofs.Pieces.{rest_more, told_more}
+use Rattle.cpl_base.proofs.OutsideFacts.{rest_more, told_more}
 use Rattle.cpl_base.proofs.sink.write_all.Goals as goal
 
 pub loop-rest-preserved : goal.loop-rest-preserved

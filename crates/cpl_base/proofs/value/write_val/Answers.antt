@@ -3,7 +3,7 @@ use Rattle.std.proofs.lemmas.List.{append-nil, take_rest}
 use Rattle.std.specs.Int.{is_negative}
 use Rattle.cpl_base.specs.Numbers.{million}
 use Rattle.cpl_base.specs.Numerals.{sign}
-use Rattle.cpl_base.proofs.Numerals.{written-appended}
+use Rattle.cpl_base.proofs.NumeralsFacts.{value_text-bytes_after}
 use Rattle.cpl_base.proofs.value.write_val.Goals as goal
 use Rattle.cpl_base.proofs.value.write_val.Goals.{then-v-lt0+in_ok-push, else-v-lt0}
 
@@ -23,4 +23,4 @@ returns-clause-ok c =
     let units_are : units ≡ signed ++ decimal (unsigned_abs z / million) = search rules in
     let six_is : six ≡ decimal (million + unsigned_abs z % million) = search rules in
     let behind = take_rest six 1 ∙ ap (λ (x : List ℕ). drop 1 x) six_is in
-    written-appended z old signed units pointed _ sign_is units_are c.in_ok-push-2.ensures.items (c.in_ok-extend_from_slice-2.ensures.items ∙ ap (λ (x : List ℕ). pointed ++ x) behind)
+    value_text-bytes_after z old signed units pointed _ sign_is units_are c.in_ok-push-2.ensures.items (c.in_ok-extend_from_slice-2.ensures.items ∙ ap (λ (x : List ℕ). pointed ++ x) behind)

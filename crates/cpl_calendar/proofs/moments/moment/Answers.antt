@@ -1,20 +1,38 @@
-use Rattle.std.proofs.Common.{◌∙◌, ap, inl, inr}
-use Rattle.cpl_calendar.specs.Texts.{judged_form}
-use Rattle.cpl_calendar.proofs.Readings.{read_form-IsForm, read_time-again, read_time-form, read_time-other, read_time-shows, read_time-within}
+use Rattle.std.proofs.Common.{◌∙◌, refl, sym, inl, inr}
+use Rattle.std.proofs.lemmas.Result.{IfOk-weaker}
+use Rattle.cpl_calendar.proofs.TextsFacts.{InTime-Shows, InTime-small, Shows-Spells, read_time-Shows, read_time-Spells, read_time-none}
 use Rattle.cpl_calendar.proofs.moments.moment.Goals as goal
 
-pub judge_form-requires : goal.judge_form-requires
-judge_form-requires c = rw c.read_form.ensures (read_form-IsForm c.args.text.now)
-
-pub returns : goal.returns
-returns c =
+pub returns-in-None : goal.returns-in-None
+returns-in-None c =
     let text = c.args.text.now in
-    let value = c.judge_form.ensures ∙ ap (judged_form c.args.cal) c.read_form.ensures in
+    let none = c.in-None.ensures.missing in
+    let value = sym (read_time-none c.args.cal text none) in
     record {
-      form = λ p form spelled. value ∙ read_time-form c.args.cal text p form spelled;
-      other = elim (read_time-other c.args.cal text) [ inl spelled ↦ inl spelled | inr bad ↦ inr (value ∙ bad) ];
+      form = λ p spells. absurd (none p spells);
+      other = inr refl;
       value = value;
-      within = rw value (read_time-within c.args.cal text);
-      shows = rw value (read_time-shows c.args.cal text);
-      again = λ m shown. value ∙ read_time-again c.args.cal text m shown;
+      within = tt;
+      small = tt;
+      shows = tt;
+      again = λ m shown. value ∙ read_time-Shows c.args.cal text m shown;
+    }
+
+pub returns-in-Some : goal.returns-in-Some
+returns-in-Some c =
+    let cal = c.args.cal in
+    let text = c.args.text.now in
+    let p = c.in-Some.parts in
+    let spells = c.in-Some.ensures.found in
+    let value = c.moment_or_fault.ensures ∙ sym (read_time-Spells cal text p spells) in
+    let shows = rw (sym c.moment_or_fault.ensures) at (Shows-Spells cal text p spells) in
+    let within = IfOk-weaker c.moment_or_fault.result _ _ (InTime-Shows cal text) shows in
+    record {
+      form = λ q spelled. value ∙ read_time-Spells cal text q spelled;
+      other = inl (p, spells);
+      value = value;
+      within = within;
+      small = IfOk-weaker c.moment_or_fault.result _ _ (InTime-small cal) within;
+      shows = shows;
+      again = λ m shown. value ∙ read_time-Shows cal text m shown;
     }

@@ -1,6 +1,6 @@
 use Rattle.std.proofs.Common.{◌<◌, length, ap, arith}
 use Rattle.cpl_text.specs.Spans.{Stands, part_in}
-use Rattle.cpl_text.proofs.LineLaws.{All-from_map}
+use Rattle.cpl_text.proofs.LinesFacts.{All-from_map}
 use Rattle.cpl_config.proofs.reading.line_texts.Goals as goal
 
 -- each word of the line stands in the text

@@ -1,6 +1,6 @@
 use Rattle.std.proofs.Common.{◌≡◌, map, take}
 use Rattle.cpl_text.specs.Spans.{part_in}
-use Rattle.cpl_config.specs.Kept.{texts}
+use Rattle.cpl_base.specs.Words.{texts}
 use Rattle.cpl_config.proofs.reading.line_texts.Given as goal
 
 -- the texts of the words so far

@@ -1,5 +1,5 @@
 use Rattle.std.proofs.Common.{◌≡◌, take}
-use Rattle.cpl_config.specs.Kept.{texts}
+use Rattle.cpl_base.specs.Words.{texts}
 use Rattle.cpl_config.specs.Words.{values_of}
 use Rattle.cpl_config.proofs.words.row.Given as goal
 

@@ -1,8 +1,8 @@
 use Rattle.std.proofs.Common.{◌≡◌, ◌<◌, length, get_or, take, All, arith, ap, subst, ◌∙◌}
 use Rattle.std.proofs.lemmas.List.{take_all}
 use Rattle.std.specs.List.{HoldsAt}
-use Rattle.cpl_dict.specs.Held.{HasRoom}
-use Rattle.cpl_dict.proofs.Noting.{HasRoom-more, length-lists_of, lists_of-set_same}
+use Rattle.cpl_dict.specs.Kept.{HasRoom}
+use Rattle.cpl_dict.proofs.NotedFacts.{HasRoom-more, length-lists_of, lists_of-set_same}
 use Rattle.cpl_dict.proofs.numbers.make_room.Goals as goal
 
 pub returns-in_err-reserve-clause-items : goal.returns-in_err-reserve-clause-items

@@ -1,6 +1,6 @@
 use Rattle.std.proofs.Common.{◌≡◌, All, take}
 use Rattle.std.specs.List.{HoldsAt}
-use Rattle.cpl_dict.specs.Held.{HasRoom, lists_of}
+use Rattle.cpl_dict.specs.Kept.{HasRoom, lists_of}
 use Rattle.cpl_dict.proofs.numbers.make_room.Given as goal
 
 -- the numbers stay, and the places that were passed have room

@@ -1,12 +1,12 @@
 use Rattle.std.specs.List.{HoldsAt}
-use Rattle.cpl_dict.specs.Held.{HasRoom}
-use Rattle.cpl_dict.proofs.Noting.{All-has_place, HasRoomLeft-more, IsNextList, IsNotedAt-none, next_has_room, next_noted}
+use Rattle.cpl_dict.specs.Kept.{HasRoom}
+use Rattle.cpl_dict.proofs.NotedFacts.{All-has_number, HasRoomLeft-more, IsNextList, IsNotedAt-none, next_has_room, next_noted}
 use Rattle.cpl_dict.proofs.numbers.note.Goals as goal
 
 pub loop-place-init : goal.loop-place-init
 loop-place-init c = record {
   noted = IsNotedAt-none _ _;
-  room = λ p among before. All-has_place (HoldsAt HasRoom c.args.lists.now.items) c.args.places.now p c.requires.room among;
+  room = λ p among before. All-has_number (HoldsAt HasRoom c.args.lists.now.items) c.args.places.now p c.requires.room among;
 }
 
 pub note_once-requires : goal.note_once-requires

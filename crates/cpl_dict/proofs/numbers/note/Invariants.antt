@@ -1,6 +1,6 @@
 use Rattle.std.proofs.Common.{take}
-use Rattle.cpl_dict.specs.Held.{IsNotedAt, lists_of}
-use Rattle.cpl_dict.proofs.Noting.{HasRoomLeft}
+use Rattle.cpl_dict.specs.Kept.{IsNotedAt, lists_of}
+use Rattle.cpl_dict.proofs.NotedFacts.{HasRoomLeft}
 use Rattle.cpl_dict.proofs.numbers.note.Given as goal
 
 -- the places that were passed are noted, and the lists of the others have their room still

@@ -1,8 +1,8 @@
 use Rattle.std.proofs.Common.{◌≡◌, [], Some, is_some, get_or, ap, subst, sym, ◌∙◌, take, ◌+◌, List, ℕ}
 use Rattle.std.specs.Map.{lookup}
 use Rattle.std.specs.Str.{bytes_eq}
-use Rattle.cpl_dict.specs.Held.{IsPlacedAs, names_of}
-use Rattle.cpl_dict.proofs.Names.{IsPlacedAs-more, known-found, place-names_of, place_in, read-at}
+use Rattle.cpl_dict.specs.Kept.{IsPlacedAs, names_of}
+use Rattle.cpl_dict.proofs.NamesFacts.{IsPlacedAs-more, known-found, place-names_of, place_in, read-at}
 use Rattle.cpl_dict.proofs.places.places_of.Goals as goal
 
 pub unreachable-requires : goal.unreachable-requires

@@ -1,5 +1,5 @@
 use Rattle.std.proofs.Common.{take}
-use Rattle.cpl_dict.specs.Held.{IsPlacedAs, names_of}
+use Rattle.cpl_dict.specs.Kept.{IsPlacedAs, names_of}
 use Rattle.cpl_dict.proofs.places.places_of.Given as goal
 
 -- the places so far are those of the names that were passed

@@ -1,8 +1,8 @@
 use Rattle.std.proofs.Common.{refl, sym}
 use Rattle.cpl_driver.specs.Answers.{usage}
 use Rattle.cpl_driver.specs.Causes.{out_of_memory, wrong_words, of_file, no_memory}
-use Rattle.cpl_driver.specs.Replies.{given}
-use Rattle.cpl_driver.proofs.CallLaws.{nothing_delivered}
+use Rattle.cpl_driver.specs.Replies.{reply_of}
+use Rattle.cpl_driver.proofs.CallsFacts.{nothing_delivered}
 use Rattle.cpl_driver.proofs.couple.answer_words.Goals as goal
 
 pub returns-in_default : goal.returns-in_default
@@ -17,7 +17,7 @@ returns-in-Err g c = (
 
 pub returns-in-Ok : goal.returns-in-Ok
 returns-in-Ok g c = (
-  given c.in-Ok.reply,
+  reply_of c.in-Ok.reply,
   of_file _ (sym c.in-Some.ensures) c.in-Ok.ensures.reply,
   rw c.as_slice.ensures.value at c.deliver-in-Ok.ensures,
 )

@@ -1,4 +1,4 @@
-use Rattle.cpl_driver.proofs.CallLaws.{causes_of, serial_of}
+use Rattle.cpl_driver.proofs.CallsFacts.{causes_of, serial_of}
 use Rattle.cpl_driver.proofs.couple.couple_solo.Goals as goal
 
 pub returns-clause-serial : goal.returns-clause-serial

@@ -2,7 +2,7 @@ use Rattle.std.proofs.Common.{◌∙◌, rules, sym, tests}
 use Rattle.std.proofs.lemmas.Iterator.{YieldsList-from_slice}
 use Rattle.std.proofs.lemmas.Iterator.Search.{any_from_yields_List}
 use Rattle.std.specs.Str.{bytes_eq}
-use Rattle.cpl_driver.proofs.Texts.{list_any-texts}
+use Rattle.cpl_base.proofs.WordsFacts.{list_any-texts}
 use Rattle.cpl_driver.proofs.names.is_among.Goals as goal
 
 pub returns : goal.returns

@@ -2,7 +2,7 @@ use Rattle.std.proofs.Common.{ℤ, replicate, arith, rules, ◌∙◌, ap, FitsS
 use Rattle.std.proofs.lemmas.Int.{to_z-of_z}
 use Rattle.std.specs.Int.{w64, cast_signed, cast_unsigned}
 use Rattle.cpl_formula.specs.Tree.{value_of}
-use Rattle.cpl_driver.proofs.Steps.{ending_of, world_more}
+use Rattle.cpl_driver.proofs.RunsFacts.{ending_of, world_more}
 use Rattle.cpl_driver.proofs.running.run.Goals as goal
 
 -- one run more, at the value of the rule over inputs that are all the cell's

@@ -1,17 +1,12 @@
--- What reading makes of a text is its outcome and its only one, and can be evaluated.
-use Rattle.std.proofs.Common.{Result, sym, subst}
-use Rattle.cpl_formula.specs.Steps.{Gives}
-use Rattle.cpl_formula.specs.declared.formula.FormulaFault.{FormulaFault}
-use Rattle.cpl_formula.specs.declared.formula.Parsed.{Parsed}
-use Rattle.cpl_formula.proofs.Outcomes.{outcome, only_outcome}
-use Rattle.cpl_formula.proofs.ReadOver.{can_be_evaluated}
+-- What reading makes of a text is its outcome and its only one, can be evaluated, and reads what was named.
+use Rattle.cpl_formula.proofs.Answers.{answer-gives, gives-over, gives-reads}
 use Rattle.cpl_formula.proofs.reading.parse.Goals as goal
 
-pub returns-clause-outcome : goal.returns-clause-outcome
-returns-clause-outcome c = outcome c.args.fields.now c.args.alarms.now c.args.text.now
-
-pub returns-clause-only : goal.returns-clause-only
-returns-clause-only c = λ r holds. subst (λ (given : Result Parsed FormulaFault). Gives (λ p. p) c.read.result given) (sym (only_outcome c.args.fields.now c.args.alarms.now c.args.text.now r holds)) c.read.ensures
+pub returns-clause-answer : goal.returns-clause-answer
+returns-clause-answer c = answer-gives c.args.fields.now c.args.alarms.now c.args.text.now c.read.result c.read.ensures
 
 pub returns-clause-over : goal.returns-clause-over
-returns-clause-over c = can_be_evaluated c.args.fields.now c.args.alarms.now c.args.text.now c.read.result c.read.ensures
+returns-clause-over c = gives-over c.args.fields.now c.args.alarms.now c.args.text.now c.read.result c.read.ensures
+
+pub returns-clause-reads : goal.returns-clause-reads
+returns-clause-reads c = gives-reads c.args.fields.now c.args.alarms.now c.args.text.now c.read.result c.read.ensures

@@ -1,5 +1,5 @@
 use Rattle.std.proofs.Common.{sym}
-use Rattle.cpl_grid.proofs.Dividing.{holder-is, holds-longer, holds-others}
+use Rattle.cpl_grid.proofs.BlockFacts.{holder-is, holds-longer, holds-others}
 use Rattle.cpl_grid.proofs.blocks.holder.Goals as goal
 
 -- the block that the division finds has the place
@@ -9,8 +9,7 @@ returns-then-place-in_longer c =
     record {
       value = sym (holder-is c.args.n c.args.m _ c.args.place found);
       within = found.inside;
-      from_start = found.started;
-      before_end = found.not_ended;
+      holds = record { from_start = found.started; before_end = found.not_ended };
     }
 
 pub returns-else-place-in_longer : goal.returns-else-place-in_longer
@@ -19,6 +18,5 @@ returns-else-place-in_longer c =
     record {
       value = sym (holder-is c.args.n c.args.m _ c.args.place found);
       within = found.inside;
-      from_start = found.started;
-      before_end = found.not_ended;
+      holds = record { from_start = found.started; before_end = found.not_ended };
     }

@@ -1,7 +1,7 @@
 use Rattle.std.proofs.Common.{◌≡◌, drop}
 use Rattle.std.specs.List.{list_all}
 use Rattle.cpl_runseq.specs.Options.{begins_with_colon}
-use Rattle.cpl_config.specs.Kept.{texts}
+use Rattle.cpl_base.specs.Words.{texts}
 use Rattle.cpl_runseq.proofs.options.all_begin_with_colon.Given as goal
 
 -- whether all begin so rests on the words that are left

@@ -6,6 +6,6 @@ use Rattle.cpl_runseq.proofs.whole.total.Given as goal
 abbrev pub invariant-loop-l : goal.invariant-loop-l
 invariant-loop-l l =
     record {
-      total_is : l.total + total (drop l.l-index l.loops) ≡ total l.loops;
-      below : l.total ≤ l.l-index * 18446744073709551615;
+      total_is : l.sum + total (drop l.l-index l.loops) ≡ total l.loops;
+      below : l.sum ≤ l.l-index * 18446744073709551615;
     }

@@ -1,8 +1,8 @@
 use Rattle.std.proofs.Common.{◌≡◌, ◌+◌, ◌-◌, eqb, true, get_or, suc, inl, inr, sym, ap, ◌∙◌, arith}
 use Rattle.std.proofs.lemmas.Bool.{and_from, cases_lt, eq-eqb, false≢true}
 use Rattle.std.proofs.lemmas.List.{take_rest}
-use Rattle.cpl_runseq.specs.Words.{is_arrow}
-use Rattle.cpl_runseq.proofs.Arrows.{cut_arrow-found, cut_arrow-none}
+use Rattle.cpl_runseq.specs.RowWords.{is_arrow}
+use Rattle.cpl_runseq.proofs.RowWordFacts.{cut_arrow-found, cut_arrow-none}
 use Rattle.cpl_runseq.proofs.words.cut_arrow.Goals as goal
 
 pub returns-then-is_arrow : goal.returns-then-is_arrow

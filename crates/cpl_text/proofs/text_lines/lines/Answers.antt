@@ -5,17 +5,17 @@ use Rattle.std.proofs.lemmas.List.{length-map, map-append}
 use Rattle.std.specs.List.{list_all, slice_split}
 use Rattle.cpl_text.specs.declared.text_lines.Line.{Line}
 use Rattle.cpl_text.specs.declared.text_lines.Word.{Word}
-use Rattle.cpl_text.specs.Lines.{ends_line, faulty_line, first_faulty, has_words, is_allowed, looked_at, numbered, placed, words_at}
+use Rattle.cpl_text.specs.Lines.{ends_line, faulty_line, first_faulty, has_words, is_allowed, content_of, lines_from, parts_from, words_at}
 use Rattle.cpl_text.specs.Spans.{span_of}
-use Rattle.cpl_text.proofs.LineLaws.{first_faulty-at, first_faulty-push, length-looked_at, lines-push, lines-skip, lines_from_spans, lines_stand, spans, spans_of}
-use Rattle.cpl_text.proofs.Places.{room, room-push, room-so_far}
+use Rattle.cpl_text.proofs.LinesFacts.{first_faulty-at, first_faulty-push, length-content_of, lines-push, lines-skip, lines_from_spans, lines_stand, spans, spans_of}
+use Rattle.cpl_text.proofs.PartsFacts.{room, room-push, room-so_far}
 use Rattle.cpl_text.proofs.text_lines.lines.Goals as goal
 use Rattle.cpl_text.proofs.text_lines.lines.Goals.{then-not-is_empty+in_ok-words+in_ok-push, else-not-is_empty}
 
 -- the first line that isn't allowed is the one at hand
-pub returns-then-not-is_allowed-clause-fault : goal.returns-then-not-is_allowed-clause-fault
+pub returns-then-not-are_allowed-clause-fault : goal.returns-then-not-are_allowed-clause-fault
 unfolding faulty_line
-returns-then-not-is_allowed-clause-fault c =
+returns-then-not-are_allowed-clause-fault c =
     let parts = slice_split ends_line c.args.bytes.now in
     let yielded = c.loop-line.yielded in
     let line = c.in-Some.line.now in
@@ -24,8 +24,8 @@ returns-then-not-is_allowed-clause-fault c =
     let turn : (length yielded < length parts) × (line ≡ get_or parts (length yielded) line) =
     YieldsList-turn (YieldsList-from_slice_split _ ends_line c.args.bytes.now (cc) (cc) (cc) (λ x b q k. search (rules, tests))) yielded _ c.loop-line.yielded_by _ _ c.in-Some.line c.in-Some.is c.next.ensures.steps in
     let before = ap (first_faulty 1) (sym so_far) ∙ c.loop-line.invariant.sound in
-    let refused : list_all is_allowed (looked_at line) ≡ false = ap (list_all is_allowed) (sym c.looked_at-text.ensures) ∙ sym c.is_allowed.ensures ∙ search (rules, tests) in
-    let here = ap (λ (text : List ℕ). list_all is_allowed (looked_at text)) (sym turn.1) ∙ refused in
+    let refused : list_all is_allowed (content_of line) ≡ false = ap (list_all is_allowed) (sym c.content_of-text.ensures) ∙ sym c.are_allowed.ensures ∙ search (rules, tests) in
+    let here = ap (λ (text : List ℕ). list_all is_allowed (content_of text)) (sym turn.1) ∙ refused in
     let number : 1 + length yielded ≡ c.loop-line.number + 1 = omega (arith, c.loop-line.invariant.number_is) in
     first_faulty-at 1 parts (length yielded) line before turn.0 here ∙ ap Some number
 
@@ -39,8 +39,8 @@ read_words-requires c =
     let turn : (length yielded < length parts) × (line ≡ get_or parts (length yielded) line) =
     YieldsList-turn (YieldsList-from_slice_split _ ends_line c.args.bytes.now (cc) (cc) (cc) (λ x b q k. search (rules, tests))) yielded _ c.loop-line.yielded_by _ _ c.in-Some.line c.in-Some.is c.next.ensures.steps in
     let fits = room-so_far ends_line c.args.bytes.now (map (λ line. line.now) yielded) (length yielded) line so_far turn.0 turn.1 in
-    let text : c.looked_at-text.result.now ≡ looked_at line = search rules in
-    omega (arith, fits, c.loop-line.invariant.start_is, c.requires, length-looked_at line, ap length text)
+    let text : c.content_of-text.result.now ≡ content_of line = search rules in
+    omega (arith, fits, c.loop-line.invariant.start_is, c.requires, length-content_of line, ap length text)
 
 pub overflow_add-start-in-loop-line : goal.overflow_add-start-in-loop-line
 overflow_add-start-in-loop-line c =
@@ -60,10 +60,10 @@ loop-line-preserved c =
     let texts = map (λ line. line.now) c.loop-line.yielded in
     let line = c.in-Some.line.now in
     let more = map-append (λ line. line.now) c.loop-line.yielded (c.in-Some.line ∷ []) in
-    let text_is = c.looked_at-text.ensures in
-    let allowed : list_all is_allowed (looked_at line) ≡ true = ap (list_all is_allowed) (sym text_is) ∙ sym c.is_allowed.ensures ∙ search (rules, tests) in
-    let words_are : map span_of (words_at (room texts) (looked_at line)) ≡ c.read_words.new.words.items =
-    ap (λ s. map span_of (words_at s (looked_at line))) (sym before.start_is) ∙ ap (λ (text : List ℕ). map span_of (words_at c.loop-line.start text)) (sym text_is) ∙ search rules in
+    let text_is = c.content_of-text.ensures in
+    let allowed : list_all is_allowed (content_of line) ≡ true = ap (list_all is_allowed) (sym text_is) ∙ sym c.are_allowed.ensures ∙ search (rules, tests) in
+    let words_are : map span_of (words_at (room texts) (content_of line)) ≡ c.read_words.new.words.items =
+    ap (λ s. map span_of (words_at s (content_of line))) (sym before.start_is) ∙ ap (λ (text : List ℕ). map span_of (words_at c.loop-line.start text)) (sym text_is) ∙ search rules in
     rw more (record {
       lines_are = elim c.if-not-is_empty.branch [
         | then-not-is_empty+in_ok-words+in_ok-push w ↦
@@ -87,7 +87,7 @@ loop-line-preserved c =
 pub returns-clause-ok : goal.returns-clause-ok
 returns-clause-ok c =
     let all = YieldsList-end (YieldsList-from_slice_split _ ends_line c.args.bytes.now (cc) (cc) (cc) (λ x b q k. search (rules, tests))) c.loop-line.yielded _ c.loop-line.yielded_by _ _ c.in-None.is c.next.ensures.steps in
-    lines_from_spans c.args.bytes.now c.loop-line.lines.items (c.loop-line.invariant.lines_are ∙ ap (λ (texts : List (List ℕ)). map spans_of (filter has_words (numbered 1 (placed 0 texts)))) all.0) (ap (first_faulty 1) (sym all.0) ∙ c.loop-line.invariant.sound)
+    lines_from_spans c.args.bytes.now c.loop-line.lines.items (c.loop-line.invariant.lines_are ∙ ap (λ (texts : List (List ℕ)). map spans_of (filter has_words (lines_from 1 (parts_from 0 texts)))) all.0) (ap (first_faulty 1) (sym all.0) ∙ c.loop-line.invariant.sound)
 
 pub returns-clause-stand : goal.returns-clause-stand
 returns-clause-stand c = lines_stand c.args.bytes.now c.loop-line.lines.items (returns-clause-ok c)

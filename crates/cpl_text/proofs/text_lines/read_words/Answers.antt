@@ -3,10 +3,10 @@ use Rattle.std.proofs.lemmas.Iterator.Consumers.{YieldsList-end, YieldsList-so_f
 use Rattle.std.proofs.lemmas.Iterator.Splits.{YieldsList-from_slice_split}
 use Rattle.std.proofs.lemmas.List.{map-append}
 use Rattle.std.specs.List.{slice_split}
-use Rattle.cpl_text.specs.Lines.{is_blank, is_word, placed}
+use Rattle.cpl_text.specs.Lines.{is_blank, is_word, parts_from}
 use Rattle.cpl_text.specs.Spans.{span_of}
-use Rattle.cpl_text.proofs.LineLaws.{words-push, words-skip}
-use Rattle.cpl_text.proofs.Places.{room-push, room-so_far}
+use Rattle.cpl_text.proofs.LinesFacts.{words-push, words-skip}
+use Rattle.cpl_text.proofs.PartsFacts.{room-push, room-so_far}
 use Rattle.cpl_text.proofs.text_lines.read_words.Goals as goal
 use Rattle.cpl_text.proofs.text_lines.read_words.Goals.{then-not-is_empty+in_ok-push, else-not-is_empty}
 
@@ -61,4 +61,4 @@ loop-piece-preserved c =
 pub returns : goal.returns
 returns c =
     let all = YieldsList-end (YieldsList-from_slice_split _ is_blank c.args.text.now (cc) (cc) (cc) (λ x b q k. search (rules, tests))) c.loop-piece.yielded _ c.loop-piece.yielded_by _ _ c.in-None.is c.next.ensures.steps in
-    sym (c.loop-piece.invariant.words_are ∙ ap (λ (texts : List (List ℕ)). map span_of (filter is_word (placed c.args.start texts))) all.0)
+    sym (c.loop-piece.invariant.words_are ∙ ap (λ (texts : List (List ℕ)). map span_of (filter is_word (parts_from c.args.start texts))) all.0)

@@ -1,16 +1,24 @@
-use Rattle.std.proofs.Common.{ap, ◌∙◌}
-use Rattle.cpl_config.specs.Items.{ItemList, found}
-use Rattle.cpl_config.specs.Kept.{by_label}
-use Rattle.cpl_config.specs.Reads.{IsShort}
-use Rattle.cpl_config.proofs.Labels.{found-All, lent-IfSome, lookup-label}
+use Rattle.std.proofs.Common.{◌≡◌, ap, subst, ◌∙◌, List, option_and_then, option_copied}
+use Rattle.cpl_config.specs.declared.entry.Entry.{Entry}
+use Rattle.cpl_config.specs.Items.{row_in, value_under}
+use Rattle.cpl_config.specs.Kept.{item_at}
+use Rattle.cpl_config.proofs.KeptFacts.{first_under-at}
 use Rattle.cpl_config.proofs.items.Items.value.Goals as goal
+
+pub returns-in_err-item-clause-value : goal.returns-in_err-item-clause-value
+returns-in_err-item-clause-value c =
+    let label = c.args.label.now in
+    let inside = c.self.inside in
+    let place = option_copied c.get.result in
+    let P : List Entry → Type 0 = λ entries. option_and_then row_in (item_at entries place) ≡ value_under label entries in
+    let found : P c.args.self.now = subst P c.self.view_is (first_under-at row_in label inside.entries.items inside.values.entries place c.self.invariant.values_are c.get.ensures.value) in
+    ap option_copied c.from_residual.ensures ∙ ap (option_and_then row_in) c.in_err-item.ensures ∙ found
 
 pub returns-clause-value : goal.returns-clause-value
 returns-clause-value c =
-    c.get.ensures.value ∙ lookup-label c.args.label.now c.self.inside.values.entries
-    ∙ ap (λ (items : ItemList). found c.args.label.now items.values) c.self.view_is
-
-pub returns-clause-short : goal.returns-clause-short
-returns-clause-short c =
-    lent-IfSome IsShort c.get.result _ (c.get.ensures.value ∙ lookup-label c.args.label.now c.self.inside.values.entries)
-    (found-All IsShort c.args.label.now (by_label c.self.inside.values.entries) c.self.invariant.values_short)
+    let label = c.args.label.now in
+    let inside = c.self.inside in
+    let place = option_copied c.get.result in
+    let P : List Entry → Type 0 = λ entries. option_and_then row_in (item_at entries place) ≡ value_under label entries in
+    let found : P c.args.self.now = subst P c.self.view_is (first_under-at row_in label inside.entries.items inside.values.entries place c.self.invariant.values_are c.get.ensures.value) in
+    c.row_in.ensures ∙ ap (option_and_then row_in) c.in_ok-item.ensures ∙ found

@@ -3,11 +3,12 @@ use Rattle.std.proofs.lemmas.List.{length_push, map_push}
 use Rattle.std.specs.Map.{lookup}
 use Rattle.std.specs.Str.{bytes_eq}
 use Rattle.indexmap.proofs.CallerLemmas.{insert_entry-new}
-use Rattle.cpl_dict.proofs.Adding.{IsKept-names, added-unknown, dictionary_of-add, with_name, is_some-map, none-from}
-use Rattle.cpl_dict.proofs.Groups.{IsKept-add}
-use Rattle.cpl_dict.proofs.Names.{lookup-names_of}
+use Rattle.cpl_dict.proofs.AddingFacts.{IsKept-names, with_name-unknown, view_of-add, one_more_name, is_some-map, none-from}
+use Rattle.cpl_dict.proofs.KeptFacts.{IsKept-add}
+use Rattle.cpl_dict.proofs.NamesFacts.{lookup-names_of}
+use Rattle.cpl_dict.proofs.SynonymsFacts.{AreApart-names_of}
 use Rattle.cpl_dict.specs.Dict.{Dictionary, is_known}
-use Rattle.cpl_dict.specs.Held.{IsKept, lists_of}
+use Rattle.cpl_dict.specs.Kept.{IsKept, lists_of}
 use Rattle.cpl_dict.proofs.dict.Dict.add.Goals as goal
 
 -- the name isn't there
@@ -34,20 +35,26 @@ pub invariant_of-self-2 : goal.invariant_of-self-2
 invariant_of-self-2 c =
     let before = c.self.inside in
     let one_more : length c.insert.new.self.entries ≡ length before.names.entries + 1 = ap length (entries_are c) ∙ length_push before.names.entries (c.in_ok-key.key, c.args.units) in
-    let pushed : c.push.new.self.items ≡ before.calls.items ++ c.new.result ∷ [] = search rules in
-    let lists_are : lists_of c.push.new.self.items ≡ lists_of before.calls.items ++ [] ∷ [] =
-    ap lists_of pushed ∙ map_push (λ (l : Vec ℕ Global). l.items) before.calls.items c.new.result ∙ ap (λ l. lists_of before.calls.items ++ l ∷ []) c.new.ensures.items in
-    subst (IsKept (length c.insert.new.self.entries) (lists_of before.groups.items)) (sym lists_are)
-    (IsKept-add (length before.names.entries) (length c.insert.new.self.entries) (lists_of before.groups.items) (lists_of before.calls.items) one_more c.self.invariant)
+    let pushed : c.push.new.self.items ≡ before.name_calls.items ++ c.new.result ∷ [] = search rules in
+    let lists_are : lists_of c.push.new.self.items ≡ lists_of before.name_calls.items ++ [] ∷ [] =
+    ap lists_of pushed ∙ map_push (λ (l : Vec ℕ Global). l.items) before.name_calls.items c.new.result ∙ ap (λ l. lists_of before.name_calls.items ++ l ∷ []) c.new.ensures.items in
+    record {
+      apart = AreApart-names_of c.insert.new.self.entries c.in_ok-insert.ensures.unique;
+      kept = subst (IsKept (length c.insert.new.self.entries) (lists_of before.call_names.items)) (sym lists_are)
+          (IsKept-add (length before.names.entries) (length c.insert.new.self.entries) (lists_of before.call_names.items) (lists_of before.name_calls.items) one_more c.self.invariant.kept);
+    }
 
-pub returns-clause-ok : goal.returns-clause-ok
-returns-clause-ok c =
+pub returns-clause-gives : goal.returns-clause-gives
+returns-clause-gives c =
     let before = c.self.inside in
     let es = before.names.entries in
-    let groups = lists_of before.groups.items in
-    let kept = IsKept-names es groups (lists_of before.calls.items) c.self.invariant in
+    let groups = lists_of before.call_names.items in
+    let kept = IsKept-names es groups (lists_of before.name_calls.items) c.self.invariant.kept in
     let bytes : c.in_ok-key.key.items ≡ c.args.name = c.in_ok-key.ensures.items ∙ c.bytes-2.ensures in
-    let becomes = dictionary_of-add es c.insert.new.self.entries groups c.in_ok-key.key c.args.name c.args.units (entries_are c) bytes kept.placed in
-    added-unknown c.args.self.now c.args.name c.args.units (unknown c)
-    ∙ ap (λ (d : Dictionary). Ok (with_name d c.args.name c.args.units)) (sym c.self.view_is)
-    ∙ ap Ok becomes
+    let becomes = view_of-add es c.insert.new.self.entries groups c.in_ok-key.key c.args.name c.args.units (entries_are c) bytes kept.placed in
+    record {
+      value = with_name-unknown c.args.self.now c.args.name c.args.units (unknown c)
+          ∙ ap (λ (d : Dictionary). Ok (one_more_name d c.args.name c.args.units)) (sym c.self.view_is)
+          ∙ ap Ok becomes;
+      fault = tt;
+    }

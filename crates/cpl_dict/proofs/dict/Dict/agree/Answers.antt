@@ -4,7 +4,7 @@ use Rattle.std.proofs.lemmas.Iterator.Search.{all_from_yields_List}
 use Rattle.std.specs.Cmp.{IsEquivalence}
 use Rattle.std.specs.Cmp.Lexicographic.{nat_list_eq_equiv, options_equiv}
 use Rattle.std.specs.Option.{option_copied}
-use Rattle.cpl_dict.proofs.Agreeing.{list_all-by_first}
+use Rattle.cpl_dict.proofs.UnitsFacts.{list_all-by_first}
 use Rattle.cpl_dict.specs.Dict.{Dictionary, same_units, units_of}
 use Rattle.cpl_dict.proofs.dict.Dict.agree.Goals as goal
 

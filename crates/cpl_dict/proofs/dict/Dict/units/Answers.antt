@@ -1,6 +1,6 @@
 use Rattle.std.proofs.Common.{◌∙◌, ap}
 use Rattle.cpl_dict.specs.Dict.{units_of}
-use Rattle.cpl_dict.proofs.Names.{lookup-names_of}
+use Rattle.cpl_dict.proofs.NamesFacts.{lookup-names_of}
 use Rattle.cpl_dict.proofs.dict.Dict.units.Goals as goal
 
 pub returns : goal.returns

@@ -1,8 +1,8 @@
-use Rattle.cpl_grid.proofs.Owning.{length-part, short_part}
+use Rattle.std.proofs.Common.{arith}
 use Rattle.cpl_grid.proofs.decomp.Decomp.count.Goals as goal
 
 pub returns : goal.returns
 returns c = record {
-  value = length-part _ _ _ _ c.sides.ensures;
-  within = short_part _ _ _ _ c.sides.ensures;
+  value = c.part-part.ensures.is_part.cells.count;
+  within = omega (arith, c.part-part.ensures.is_part.cells.count, c.part-part.ensures.is_part.few);
 }

@@ -1,6 +1,6 @@
 use Rattle.std.proofs.Common.{ap, ◌∙◌}
 use Rattle.cpl_grid.specs.Owners.{Layout, owner_of}
-use Rattle.cpl_grid.proofs.Owning.{owner_from}
+use Rattle.cpl_grid.proofs.OwnerFacts.{owner_from}
 use Rattle.cpl_grid.proofs.decomp.Decomp.owner.Goals as goal
 
 pub returns-clause-value : goal.returns-clause-value

@@ -1,7 +1,7 @@
 use Rattle.std.proofs.Common.{arith, ap, ◌∙◌, List}
-use Rattle.cpl_runseq.specs.declared.link_line.LinkLine.{LinkLine}
+use Rattle.cpl_sequence.specs.declared.link_line.LinkLine.{LinkLine}
 use Rattle.cpl_runseq.specs.Links.{link_at}
-use Rattle.cpl_runseq.proofs.Tables.{count-most, indexed_more}
+use Rattle.cpl_runseq.proofs.LinkTableFacts.{count-most, indexed_more}
 use Rattle.cpl_runseq.proofs.links.Links.add.Goals as goal
 
 pub overflow_cast-place : goal.overflow_cast-place

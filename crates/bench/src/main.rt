@@ -1,0 +1,157 @@
+//! How long the parts that matter take, each beside a plain path.
+//!
+//! The first word of the command line is the measure (`values`, `prepared`, `formula`, `sequence`), the second how many
+//! thousands of rounds it makes; without words each measure makes one thousand. Checksums go to standard
+//! output, times in nanoseconds to standard error.
+#![tactic(auto)]
+
+ghost use Rattle.std.specs.Prelude.{◌≡◌, All, length};
+ghost use Rattle.cpl_base.specs.Numbers.{IsValue};
+
+mod cells;
+mod loops;
+mod passes;
+mod products;
+mod table;
+
+use cells::{formula_sum, plain_sum, tree};
+use cpl_base::Divisor;
+use cpl_runseq::Cursor;
+use loops::sequence;
+use passes::{next_sum, op_sum};
+use products::{
+    plain_products, plain_quotients, prepared_quotients, products, quotients, quotients_by,
+};
+use std::alloc::Global;
+use std::rt::{Clock, Env};
+use std::time::Instant;
+use std::{env, io};
+use table::table;
+
+/// A hundred units.
+const HUNDRED: i64 = 100_000_000;
+
+/// The word at a place of the command line, if there is one.
+fn word(rt: &(impl Env + AllocGlobal), place: usize) -> io::Result<Option<String>> {
+    Ok(env::args(rt)?.nth(place))
+}
+
+/// Whether a measure is asked for: by its name, or by no word.
+fn is_asked(asked: &Option<String>, name: &str) -> bool {
+    match asked {
+        Some(word) => word.as_str() == name,
+        None => true,
+    }
+}
+
+/// Prints what was summed, and how long that took.
+fn report(
+    rt: &(impl Clock + Print + Eprint),
+    name: &str,
+    start: Instant,
+    sum: i64,
+) -> io::Result<()> {
+    let nanos = start.elapsed(rt)?.as_nanos();
+    println!(rt; "{name} {sum}")?;
+    eprintln!(rt; "{name} {nanos}")
+}
+
+/// Products and quotients of neighbours in the table.
+fn measure_values(rt: &(impl Clock + Print + Eprint), values: &[i64], rounds: u64) -> io::Result<()>
+    requires { All IsValue values.now }
+{
+    let start = Instant::now(rt)?;
+    report(rt, "products", start, products(values, rounds))?;
+    let start = Instant::now(rt)?;
+    report(rt, "plain_products", start, plain_products(values, rounds))?;
+    let start = Instant::now(rt)?;
+    report(rt, "quotients", start, quotients(values, rounds))?;
+    let start = Instant::now(rt)?;
+    report(
+        rt,
+        "plain_quotients",
+        start,
+        plain_quotients(values, rounds),
+    )
+}
+
+/// Quotients by one divisor, prepared and not.
+fn measure_prepared(
+    rt: &(impl Clock + Print + Eprint),
+    values: &[i64],
+    rounds: u64,
+) -> io::Result<()>
+    requires { All IsValue values.now }
+{
+    let Some(divisor) = Divisor::new(HUNDRED) else {
+        return eprintln!(rt; "the divisor isn't prepared");
+    };
+    let start = Instant::now(rt)?;
+    report(
+        rt,
+        "prepared",
+        start,
+        prepared_quotients(values, rounds, divisor),
+    )?;
+    let start = Instant::now(rt)?;
+    report(rt, "by_div", start, quotients_by(values, rounds, HUNDRED))
+}
+
+/// The value of a formula at many cells.
+fn measure_formula(
+    rt: &(impl Clock + Print + Eprint),
+    alloc: Global,
+    values: &[i64],
+    rounds: u64,
+) -> io::Result<()>
+    requires values { All IsValue values.now }
+    requires count { length values.now ≡ 1029 }
+{
+    let cells = rounds.saturating_mul(1_000);
+    let Some(tree) = tree(alloc) else {
+        return eprintln!(rt; "the formula isn't read");
+    };
+    let start = Instant::now(rt)?;
+    report(rt, "formula", start, formula_sum(&tree, values, cells))?;
+    let start = Instant::now(rt)?;
+    report(rt, "plain_formula", start, plain_sum(values, cells))
+}
+
+/// Passes over the operations of a run sequence of so many thousands of top loops.
+fn measure_sequence(
+    rt: &(impl Clock + Print + Eprint),
+    alloc: Global,
+    rounds: u64,
+) -> io::Result<()> {
+    let Ok(sequence) = sequence(alloc, rounds.saturating_mul(1_000)) else {
+        return eprintln!(rt; "the sequence isn't read");
+    };
+    let Ok(mut cursor) = Cursor::start(alloc, &sequence) else {
+        return eprintln!(rt; "out of memory");
+    };
+    let start = Instant::now(rt)?;
+    report(rt, "next", start, next_sum(&mut cursor, &sequence))?;
+    let start = Instant::now(rt)?;
+    report(rt, "op", start, op_sum(&sequence))
+}
+
+fn main(rt: HostRuntime) -> io::Result<()> {
+    let asked = word(&rt, 1)?;
+    let rounds = word(&rt, 2)?
+        .and_then(|word| word.as_str().parse::<u64>().ok())
+        .unwrap_or(1);
+    let values = table(rt.alloc())?;
+    if is_asked(&asked, "values") {
+        measure_values(&rt, values.as_slice(), rounds)?;
+    }
+    if is_asked(&asked, "prepared") {
+        measure_prepared(&rt, values.as_slice(), rounds)?;
+    }
+    if is_asked(&asked, "formula") {
+        measure_formula(&rt, rt.alloc(), values.as_slice(), rounds)?;
+    }
+    if is_asked(&asked, "sequence") {
+        measure_sequence(&rt, rt.alloc(), rounds)?;
+    }
+    Ok(())
+}

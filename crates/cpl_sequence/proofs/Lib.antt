@@ -1,0 +1,15 @@
+pub mod BoundFacts
+mod CapFacts
+mod CursorFacts
+pub mod ListFacts
+mod MarkFacts
+mod PlaceFacts
+mod RemainderFacts
+mod RunFacts
+pub mod SoundFacts
+mod StepFacts
+mod TopLoopFacts
+pub mod TreeFacts
+mod TurnFacts
+mod TurnedFrames
+mod UnrolledSizes
