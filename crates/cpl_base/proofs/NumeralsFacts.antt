@@ -7,7 +7,7 @@ use Rattle.std.proofs.lemmas.List.{append-nil}
 use Rattle.std.specs.Int.{is_negative, w128}
 use Rattle.std.specs.List.{list_all}
 use Rattle.cpl_base.specs.Numbers.{IsValue, greatest, million}
-use Rattle.cpl_base.specs.Numerals.{Numeral, Writes, are_digits, are_places, cut_at, fraction, is_digit, number_within, numeral_of, numeral_value, onto_front, parts_of, parts_value, place_digits, sign, signed, signed_part, six_digits, steps, value_of, value_text}
+use Rattle.cpl_base.specs.Numerals.{Numeral, Writes, are_digits, are_places, cut_at, fraction, is_digit, number_within, numeral_of, numeral_value, onto_front, parts_of, parts_value, place_digits, sign, signed_integer, signed_part, six_digits, steps, value_of, value_text}
 use Rattle.cpl_base.specs.declared.value.ValFault.TheVariants.{Digits}
 
 -- ---- a numeral is read as what it denotes
@@ -114,16 +114,16 @@ numeral_or_none places most text =
 -- ---- what is read is in range
 
 -- a sign leaves the size as it is
-unsigned_abs-signed : (minus : Bool) (m : ℕ) → unsigned_abs (signed minus m) ≡ m
-unsigned_abs-signed true zero = refl
-unsigned_abs-signed true (suc m) = refl
-unsigned_abs-signed false m = refl
+unsigned_abs-signed_integer : (minus : Bool) (m : ℕ) → unsigned_abs (signed_integer minus m) ≡ m
+unsigned_abs-signed_integer true zero = refl
+unsigned_abs-signed_integer true (suc m) = refl
+unsigned_abs-signed_integer false m = refl
 
 -- what isn't greater than the most stays so behind a sign
 number_within-bound : (most : ℕ) (minus : Bool) (m : ℕ) → IfOk (number_within most minus m) (λ z. unsigned_abs z ≤ most)
 number_within-bound most minus m =
     elim (cases_Bool (leb m most)) [
-      | inl e ↦ rw (e, unsigned_abs-signed minus m) (leb-true m most e)
+      | inl e ↦ rw (e, unsigned_abs-signed_integer minus m) (leb-true m most e)
       | inr e ↦ rw e tt
     ]
 
@@ -151,9 +151,9 @@ unsigned_abs-below (pos n) fits = omega (arith, fits.sfits)
 unsigned_abs-below (negsuc n) fits = omega (arith, fits.sfits)
 
 -- a number is its sign and its size
-signed-unsigned_abs : (z : ℤ) → signed (is_negative z) (unsigned_abs z) ≡ z
-signed-unsigned_abs (pos n) = rw (le-ltb n 0 (omega arith)) refl
-signed-unsigned_abs (negsuc n) = refl
+signed_integer-unsigned_abs : (z : ℤ) → signed_integer (is_negative z) (unsigned_abs z) ≡ z
+signed_integer-unsigned_abs (pos n) = rw (le-ltb n 0 (omega arith)) refl
+signed_integer-unsigned_abs (negsuc n) = refl
 
 -- what is written of a number is a numeral that writes it
 pub written_writes : (z : ℤ) → FitsSigned w128 z → Writes (value_text z) z
@@ -177,14 +177,14 @@ written_writes z fits =
       minus = refl;
       lean = decimal-lean units (omega arith);
       six = six.length_is;
-      number_is = ap (signed (is_negative z)) parts ∙ signed-unsigned_abs z;
+      number_is = ap (signed_integer (is_negative z)) parts ∙ signed_integer-unsigned_abs z;
     }
 
 -- parts that denote a value are worth that value
-numeral_value-value : (minus : Bool) (units digits : List ℕ) (z : ℤ) → length digits ≤ 6 → signed minus (steps 6 units digits) ≡ z → IsValue z → numeral_value 6 greatest minus units digits ≡ Ok z
+numeral_value-value : (minus : Bool) (units digits : List ℕ) (z : ℤ) → length digits ≤ 6 → signed_integer minus (steps 6 units digits) ≡ z → IsValue z → numeral_value 6 greatest minus units digits ≡ Ok z
 numeral_value-value minus units digits z short is value =
     let m = steps 6 units digits in
-    let same : m ≡ unsigned_abs z = sym (unsigned_abs-signed minus m) ∙ ap unsigned_abs is in
+    let same : m ≡ unsigned_abs z = sym (unsigned_abs-signed_integer minus m) ∙ ap unsigned_abs is in
     rw (le-leb (length digits) 6 short, le-leb m greatest (rw same value)) (ap Ok is)
 
 -- what is written of a value is read as that value

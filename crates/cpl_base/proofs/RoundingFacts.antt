@@ -6,7 +6,7 @@ use Rattle.std.proofs.lemmas.Nat.{div-add-mod', div-mul-add, mod_below}
 use Rattle.std.specs.Bool.{beq}
 use Rattle.std.specs.Int.{int_div_euclid, is_negative}
 use Rattle.cpl_base.specs.Numbers.{clip, greatest, million}
-use Rattle.cpl_base.specs.Numerals.{signed}
+use Rattle.cpl_base.specs.Numerals.{signed_integer}
 use Rattle.cpl_base.specs.Rounding.{near_of, nearest_size, quotient_of}
 
 -- a number in whole divisors and a rest
@@ -64,7 +64,7 @@ below-large : (m d : ℕ) → d < 2 * suc m → pos 2 *ℤ negsuc m +ℤ pos d �
 below-large m d large = omega (arith, ints)
 
 -- a sign on a size that is rounded
-pub near_of-signed : (minus : Bool) (size d : ℕ) → 0 < d → near_of (signed minus size) (pos d) ≡ signed minus (nearest_size (not minus) size d)
+pub near_of-signed : (minus : Bool) (size d : ℕ) → 0 < d → near_of (signed_integer minus size) (pos d) ≡ signed_integer minus (nearest_size (not minus) size d)
 near_of-signed false size d some = refl
 near_of-signed true zero d some =
     let low = div-is (0 + d) 0 d (2 * d) (omega arith) (omega arith) in
@@ -92,18 +92,18 @@ near_of-below (negsuc m) (pos k) s e size minus above is_s is_e is =
     ap (λ x. neg_ℤ (pos x)) (is ∙ (λ j. nearest_size false (is_s j) (is_e j))) ∙ sym (near_of-signed true (suc m) k some)
 
 -- the nearest value of a sign and a size
-clip-signed : (minus : Bool) (n : ℕ) → clip (signed minus n) ≡ signed minus (min n greatest)
+clip-signed : (minus : Bool) (n : ℕ) → clip (signed_integer minus n) ≡ signed_integer minus (min n greatest)
 clip-signed true n = omega (arith, ints, clamps)
 clip-signed false n = omega (arith, ints, clamps)
 
 -- a sign and a size, rounded and clipped
-rounded-signed : (minus : Bool) (size d : ℕ) → 0 < d → signed minus (min (nearest_size (not minus) size d) greatest) ≡ clip (near_of (signed minus size) (pos d))
+rounded-signed : (minus : Bool) (size d : ℕ) → 0 < d → signed_integer minus (min (nearest_size (not minus) size d) greatest) ≡ clip (near_of (signed_integer minus size) (pos d))
 rounded-signed minus size d some = sym (ap clip (near_of-signed minus size d some) ∙ clip-signed minus (nearest_size (not minus) size d))
 
 -- the same from an equal sign and equal sizes
-rounded-by : (m minus : Bool) (s size e d : ℕ) → m ≡ minus → s ≡ size → e ≡ d → 0 < d → signed m (min (nearest_size (not m) (s * million) e) greatest) ≡ clip (near_of (signed minus (size * million)) (pos d))
+rounded-by : (m minus : Bool) (s size e d : ℕ) → m ≡ minus → s ≡ size → e ≡ d → 0 < d → signed_integer m (min (nearest_size (not m) (s * million) e) greatest) ≡ clip (near_of (signed_integer minus (size * million)) (pos d))
 rounded-by m minus s size e d is_m is_s is_e some =
-    (λ j. signed (is_m j) (min (nearest_size (not (is_m j)) (is_s j * million) (is_e j)) greatest)) ∙ rounded-signed minus (size * million) d some
+    (λ j. signed_integer (is_m j) (min (nearest_size (not (is_m j)) (is_s j * million) (is_e j)) greatest)) ∙ rounded-signed minus (size * million) d some
 
 -- numbers from 0 on aren't negative
 is_negative-pos : (n : ℕ) → is_negative (pos n) ≡ false
@@ -120,7 +120,7 @@ differ a b = not (beq (is_negative a) (is_negative b))
 
 -- the quotient of two numbers, by their signs and sizes
 pub quotient_of-signed : (a b : ℤ) (s e : ℕ) → (b ≡ pos 0 → ⊥) → s ≡ unsigned_abs a → e ≡ unsigned_abs b
-    → signed (differ a b) (min (nearest_size (not (differ a b)) (s * million) e) greatest) ≡ quotient_of a b
+    → signed_integer (differ a b) (min (nearest_size (not (differ a b)) (s * million) e) greatest) ≡ quotient_of a b
 quotient_of-signed a (pos zero) s e nonzero is_s is_e = absurd (nonzero refl)
 quotient_of-signed (pos x) (pos (suc y)) s e nonzero is_s is_e =
     let at_x = is_negative-pos x in
@@ -139,11 +139,11 @@ quotient_of-signed (negsuc x) (negsuc y) s e nonzero is_s is_e =
     ∙ ap (λ z. clip (near_of z (pos (suc y)))) (sym (neg_ℤ-neg_ℤ (suc x * million)))
 
 -- a sign of a value and its size, divided by a number above 0
-pub quotient_of-positive : (a : ℤ) (s e : ℕ) → 0 < e → s ≡ unsigned_abs a → signed (is_negative a) (min (nearest_size (not (is_negative a)) (s * million) e) greatest) ≡ quotient_of a (pos e)
+pub quotient_of-positive : (a : ℤ) (s e : ℕ) → 0 < e → s ≡ unsigned_abs a → signed_integer (is_negative a) (min (nearest_size (not (is_negative a)) (s * million) e) greatest) ≡ quotient_of a (pos e)
 quotient_of-positive a s zero some is_s = absurd (omega arith)
 quotient_of-positive a s (suc y) some is_s =
     let same : differ a (pos (suc y)) ≡ is_negative a = elim (cases_Bool (is_negative a)) [
       | inl below ↦ rw (is_negative-pos (suc y), below) refl
       | inr above ↦ rw (is_negative-pos (suc y), above) refl
     ] in
-    sym (ap (λ m. signed m (min (nearest_size (not m) (s * million) (suc y)) greatest)) same) ∙ quotient_of-signed a (pos (suc y)) s (suc y) (λ e. absurd (cc)) is_s refl
+    sym (ap (λ m. signed_integer m (min (nearest_size (not m) (s * million) (suc y)) greatest)) same) ∙ quotient_of-signed a (pos (suc y)) s (suc y) (λ e. absurd (cc)) is_s refl

@@ -17,7 +17,7 @@ all_some f [] = Some []
 all_some f (x ∷ xs) = f x >>= (λ y. all_some f xs >>= (λ ys. Some (y ∷ ys)))
 
 -- the one member of a list that has just one
-abbrev pub single : {A : Type 0} → List A → Option A
-single [] = None
-single (x ∷ []) = Some x
-single (x ∷ y ∷ more) = None
+abbrev pub sole_member : {A : Type 0} → List A → Option A
+sole_member [] = None
+sole_member (x ∷ []) = Some x
+sole_member (x ∷ y ∷ more) = None

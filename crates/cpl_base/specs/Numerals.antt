@@ -25,12 +25,12 @@ abbrev pub number_word : List ℕ → Option ℕ
 number_word word = if are_digits word && nat_le (length word) 18 then Some (number word) else None
 
 -- a number, where it is from the least to the most
-abbrev pub within : ℕ → ℕ → ℕ → Option ℕ
-within least most n = if nat_le least n && nat_le n most then Some n else None
+abbrev pub number_in_range : ℕ → ℕ → ℕ → Option ℕ
+number_in_range least most n = if nat_le least n && nat_le n most then Some n else None
 
 -- the number of one to eighteen digits, from the least to the most
 abbrev pub number_between : ℕ → ℕ → List ℕ → Option ℕ
-number_between least most word = number_word word >>= within least most
+number_between least most word = number_word word >>= number_in_range least most
 
 -- ---- what a text denotes
 
@@ -59,9 +59,9 @@ abbrev pub steps : ℕ → List ℕ → List ℕ → ℕ
 steps places units digits = number units * 10 ^ places + number digits * 10 ^ (places - length digits)
 
 -- a number, or that number below zero
-abbrev pub signed : Bool → ℕ → ℤ
-signed true m = neg_ℤ (pos m)
-signed false m = pos m
+abbrev pub signed_integer : Bool → ℕ → ℤ
+signed_integer true m = neg_ℤ (pos m)
+signed_integer false m = pos m
 
 -- The text is a numeral: an optional minus, digits, and optionally a point and digits.
 pub record Numeral (text : List ℕ) : Type 0 where
@@ -74,11 +74,11 @@ pub record Numeral (text : List ℕ) : Type 0 where
 
 -- what a numeral of six places at most denotes, in millionths
 abbrev pub numeral_millionths : {text : List ℕ} → Numeral text → ℤ
-numeral_millionths n = signed n.minus (steps 6 n.units (place_digits n.places))
+numeral_millionths n = signed_integer n.minus (steps 6 n.units (place_digits n.places))
 
 -- a number with its sign, where it isn't greater than the most
 abbrev pub number_within : ℕ → Bool → ℕ → Result ℤ ValFault
-number_within most minus m = if nat_le m most then Ok (signed minus m) else Err Range
+number_within most minus m = if nat_le m most then Ok (signed_integer minus m) else Err Range
 
 -- What a numeral is worth, in steps of so many places, at most so great; too many places come before the range.
 abbrev pub numeral_value : ℕ → ℕ → Bool → List ℕ → List ℕ → Result ℤ ValFault
@@ -104,7 +104,7 @@ signed_part (c ∷ cs) = if c == 45 then (true, cs) else (false, c ∷ cs)
 
 -- the number of one to eighteen digits, behind a minus or not
 abbrev pub signed_number_word : List ℕ → Option ℤ
-signed_number_word word = let s = signed_part word in number_word s.1 >>= (λ n. Some (signed s.0 n))
+signed_number_word word = let s = signed_part word in number_word s.1 >>= (λ n. Some (signed_integer s.0 n))
 
 -- the digits before the point, and those behind it where there is one
 abbrev pub parts_of : List ℕ → Option (List ℕ × List ℕ) → List ℕ × Option (List ℕ)

@@ -5,7 +5,7 @@
 
 ghost use Rattle.std.specs.Prelude.{◌≡◌, ◌-◌, ◌*◌, ◌/◌, ◌^◌, ◌≤◌, IfSome, IfNone, min, not};
 ghost use Rattle.cpl_base.specs.Numbers.{IsValue, greatest, million};
-ghost use Rattle.cpl_base.specs.Numerals.{signed};
+ghost use Rattle.cpl_base.specs.Numerals.{signed_integer};
 ghost use Rattle.cpl_base.specs.Prepared.{IsPrepared};
 ghost use Rattle.cpl_base.specs.Rounding.{IsThousandths, nearest_size, quotient_of};
 
@@ -29,7 +29,7 @@ pub struct Divisor {
 
 impl Model for Divisor {
     ghost use Rattle.std.specs.Prelude.{ℤ, pos, unsigned_abs, ◌*◌, ◌-◌, ◌/◌, ◌^◌};
-    ghost use Rattle.cpl_base.specs.Numerals.{signed};
+    ghost use Rattle.cpl_base.specs.Numerals.{signed_integer};
     ghost use Rattle.cpl_base.specs.Prepared.{IsPrepared};
 
     ghost Value = { ℤ };
@@ -80,7 +80,7 @@ impl Divisor {
 fn signed_quotient(thousandths: u64, reciprocal: u64, minus: bool, size: u64) -> i64
     requires prepared { IsPrepared thousandths reciprocal }
     requires size { size ≤ greatest }
-    ensures { result ≡ signed minus (min (nearest_size (not minus) (size * million) (1000 * thousandths)) greatest) }
+    ensures { result ≡ signed_integer minus (min (nearest_size (not minus) (size * million) (1000 * thousandths)) greatest) }
 {
     let size = nearest(thousandths, reciprocal, size, !minus).min(GREATEST) as i64;
     if minus { -size } else { size }

@@ -4,7 +4,7 @@
 
 ghost use Rattle.std.specs.Prelude.{◌≡◌, ◌^◌, ◌<◌, ◌≤◌, pos, ◌+ℤ◌, ◌*ℤ◌, ◌<ℤ◌, ◌≤ℤ◌, ◌*◌, negsuc, min, not, unsigned_abs};
 ghost use Rattle.cpl_base.specs.Numbers.{IsValue, greatest, million};
-ghost use Rattle.cpl_base.specs.Numerals.{signed};
+ghost use Rattle.cpl_base.specs.Numerals.{signed_integer};
 ghost use Rattle.cpl_base.specs.Rounding.{near_of, nearest_size, product_of, quotient_of};
 
 use crate::value::{GREATEST, MILLION};
@@ -97,7 +97,7 @@ fn scaled(minus: bool, size: u64, by: u64, d: u64) -> i64
     requires by { by ≤ greatest }
     requires nonzero { 0 < d }
     requires divisor { d ≤ greatest }
-    ensures { result ≡ signed minus (min (nearest_size (not minus) (size * by) d) greatest) }
+    ensures { result ≡ signed_integer minus (min (nearest_size (not minus) (size * by) d) greatest) }
 {
     let product = u128::from(size) * u128::from(by);
     let size = nearest(product, u128::from(d), !minus).min(u128::from(GREATEST)) as i64;

@@ -9,7 +9,7 @@ use Rattle.cpl_config.specs.declared.fault.ItemFault.{ItemFault}
 use Rattle.cpl_config.specs.declared.fault.ItemFault.TheVariants.{Unclosed}
 use Rattle.cpl_config.specs.declared.row.Row.{Row}
 use Rattle.cpl_config.specs.declared.row.Table.{Table}
-use Rattle.cpl_config.specs.Items.{WordLine, entries_with, items_of, outside, row_of, rows_of, table_entry, table_under, value_entry, value_under}
+use Rattle.cpl_config.specs.Items.{WordLine, entries_with, items_of, outside_lines, row_of, rows_of, table_entry, table_under, value_entry, value_under}
 use Rattle.cpl_config.specs.Steps.{Progress, progress_of, with_row}
 use Rattle.cpl_config.specs.Words.{is_table_end, table_label, value_item}
 
@@ -34,16 +34,16 @@ whole table lines = record { line = table.line; rows = table.rows ++ rows_of lin
 -- what the definition gives of lines that begin in a table
 abbrev entries_inside : List WordLine → List Entry → List ℕ × Table → Result (List Entry) ItemFault
 entries_inside lines entries table =
-    cond (closes_any lines) (entries_with (entries ++ table_entry table.0 (whole table.1 lines) ∷ []) (outside true lines)) (Err (Unclosed table.1.line))
+    cond (closes_any lines) (entries_with (entries ++ table_entry table.0 (whole table.1 lines) ∷ []) (outside_lines true lines)) (Err (Unclosed table.1.line))
 
 -- What is read of lines is what the definition gives, outside of tables and in one.
 record Reads (lines : List WordLine) : Type 0 where
-  out : (entries : List Entry) → entries_from lines entries None ≡ entries_with entries (outside false lines)
+  out : (entries : List Entry) → entries_from lines entries None ≡ entries_with entries (outside_lines false lines)
   in_table : (entries : List Entry) (table : List ℕ × Table) → entries_from lines entries (Some table) ≡ entries_inside lines entries table
 
 -- a line outside of tables, where it is known what it opens and which values it has
 step_outside : (l : WordLine) (ls : List WordLine) → Reads ls → (entries : List Entry) (o : Option (List ℕ)) (v : Option (List ℕ × List (List ℕ))) → table_label l.words ≡ o → value_item l.words ≡ v
-    → entries_from (l ∷ ls) entries None ≡ entries_with entries (outside false (l ∷ ls))
+    → entries_from (l ∷ ls) entries None ≡ entries_with entries (outside_lines false (l ∷ ls))
 step_outside l ls reads entries None None eo ev = rw (eo, ev) refl
 step_outside l ls reads entries None (Some v) eo ev =
     let row : Row = record { line = l.number; words = v.1 } in
@@ -66,12 +66,12 @@ step_inside : (l : WordLine) (ls : List WordLine) → Reads ls → (entries : Li
 step_inside l ls reads entries table =
     elim (cases_Bool (is_table_end l.words)) [
       | inl e ↦ rw e (reads.out (entries ++ table_entry table.0 table.1 ∷ [])
-          ∙ ap (λ (rows : List Row). entries_with (entries ++ table_entry table.0 (record { line = table.1.line; rows = rows }) ∷ []) (outside false ls)) (sym (append-nil table.1.rows)))
+          ∙ ap (λ (rows : List Row). entries_with (entries ++ table_entry table.0 (record { line = table.1.line; rows = rows }) ∷ []) (outside_lines false ls)) (sym (append-nil table.1.rows)))
       | inr e ↦
           let count = prefix_len (λ line. not (is_table_end line.words)) ls in
           let one : suc count ≡ 1 + count = omega arith in
           rw e (reads.in_table entries (table.0, with_row table.1 (row_of l))
-          ∙ ap (λ (rows : List Row). cond (closes_any ls) (entries_with (entries ++ table_entry table.0 (record { line = table.1.line; rows = rows }) ∷ []) (outside true ls)) (Err (Unclosed table.1.line)))
+          ∙ ap (λ (rows : List Row). cond (closes_any ls) (entries_with (entries ++ table_entry table.0 (record { line = table.1.line; rows = rows }) ∷ []) (outside_lines true ls)) (Err (Unclosed table.1.line)))
           (append_assoc table.1.rows (row_of l ∷ []) (rows_of ls) ∙ ap (λ n. table.1.rows ++ map row_of (take n (l ∷ ls))) one))
     ]
 

@@ -60,10 +60,10 @@ abbrev pub word_line : TextLine → WordLine
 word_line line = record { number = line.number; words = map (λ word. word.text) line.words }
 
 -- The lines outside of tables, each with the lines behind it. A line that closes a table is none of them.
-abbrev pub outside : Bool → List WordLine → List (WordLine × List WordLine)
-outside inside [] = []
-outside true (line ∷ lines) = outside (not (is_table_end line.words)) lines
-outside false (line ∷ lines) = (line, lines) ∷ outside (is_some (table_label line.words)) lines
+abbrev pub outside_lines : Bool → List WordLine → List (WordLine × List WordLine)
+outside_lines inside [] = []
+outside_lines true (line ∷ lines) = outside_lines (not (is_table_end line.words)) lines
+outside_lines false (line ∷ lines) = (line, lines) ∷ outside_lines (is_some (table_label line.words)) lines
 
 -- a line as a row
 abbrev pub row_of : WordLine → Row
@@ -111,7 +111,7 @@ entries_with before (place ∷ places) = entry_at before place.0 place.1 >>= (λ
 
 -- the entries of a file of these lines, or the first fault
 unfoldable pub items_of : List WordLine → Result (List Entry) ItemFault
-items_of lines = entries_with [] (outside false lines)
+items_of lines = entries_with [] (outside_lines false lines)
 
 -- ---- how long rows are
 

@@ -87,7 +87,8 @@ fn read_line(
 ) -> Result<Option<OpenTable>, ItemFault>
     requires short { length (join_with_byte 32 (texts words.now)) < 2 ^ 32 }
     requires joins { IfSome table (CanJoin items.old) }
-    ensures gives { Gives ItemFault.Memory (λ after. (items.new, option_map table_so_far after)) result (progress_of items.old (option_map table_so_far table) (record { number = number; words = texts words.now })) }
+    ensures gives { Gives ItemFault.Memory (λ after. (items.new, option_map table_so_far after)) result
+        (progress_of items.old (option_map table_so_far table) (record { number = number; words = texts words.now })) }
     ensures joins { IfOk result (λ after. IfSome after (CanJoin items.new)) }
 {
     match table {

@@ -12,12 +12,12 @@ winds = record {
 }
 
 -- a dictionary without names
-abbrev pub empty : Dictionary
-empty = record { names = []; calls = [] }
+abbrev pub empty_dictionary : Dictionary
+empty_dictionary = record { names = []; calls = [] }
 
 -- a dictionary of one name
-abbrev pub lone : Dictionary
-lone = record { names = (codes "t", codes "K") ∷ []; calls = [] }
+abbrev pub lone_dictionary : Dictionary
+lone_dictionary = record { names = (codes "t", codes "K") ∷ []; calls = [] }
 
 -- a dictionary with names, how names match in it, and their numbers; dictionaries with one more name or synonym call, and what is refused
 pub record DictExamples : Type 0 where
@@ -41,10 +41,10 @@ pub record DictExamples : Type 0 where
   pub between_equal : bond_between winds 3 3 ≡ 2
   pub between_synonyms : bond_between winds 1 2 ≡ 1
   pub between_no_chain : bond_between winds 0 2 ≡ 0
-  pub adds_first : with_name empty (codes "t") (codes "K") ≡ Ok lone
+  pub adds_first : with_name empty_dictionary (codes "t") (codes "K") ≡ Ok lone_dictionary
   pub adds_twice : with_name winds (codes "t") (codes "degC") ≡ Err NameTwice
-  pub binds_none : with_synonyms empty [] ≡ Ok (record { names = []; calls = [] ∷ [] })
-  pub binds_itself : with_synonyms lone (codes "t" ∷ codes "t" ∷ []) ≡ Ok (record { names = lone.names; calls = (codes "t" ∷ codes "t" ∷ []) ∷ [] })
+  pub binds_none : with_synonyms empty_dictionary [] ≡ Ok (record { names = []; calls = [] ∷ [] })
+  pub binds_itself : with_synonyms lone_dictionary (codes "t" ∷ codes "t" ∷ []) ≡ Ok (record { names = lone_dictionary.names; calls = (codes "t" ∷ codes "t" ∷ []) ∷ [] })
   pub binds_unknown : with_synonyms winds (codes "t" ∷ codes "v" ∷ []) ≡ Err NameUnknown
   pub binds_differing : with_synonyms winds (codes "t" ∷ codes "tas" ∷ codes "u" ∷ []) ≡ Err UnitsDiffer
   pub binds_unknown_first : with_synonyms winds (codes "t" ∷ codes "u" ∷ codes "v" ∷ []) ≡ Err NameUnknown

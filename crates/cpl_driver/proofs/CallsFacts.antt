@@ -4,8 +4,8 @@ use Rattle.std.proofs.lemmas.Bool.{le-ltb, lt-ltb}
 use Rattle.std.proofs.lemmas.List.{append-nil}
 use Rattle.cpl_base.specs.Loading.{IsLoaded, IsLonger, IsMissing}
 use Rattle.cpl_base.specs.Outside.{Files, Rises, Stays, bytes_after}
-use Rattle.cpl_driver.specs.Answers.{Reply, answer, file_to_run, most_bytes, reply_for, reply_to, reply_with, too_long, unread, usage}
-use Rattle.cpl_driver.specs.Calls.{HasCauses, IsDone, IsSerial, IsUnderFault, to_err, to_out}
+use Rattle.cpl_driver.specs.Answers.{Reply, answer, file_to_run, most_bytes, reply_for, reply_to, reply_with, too_long_reply, unread_reply, usage_reply}
+use Rattle.cpl_driver.specs.Calls.{HasCauses, IsDone, IsSerial, IsUnderFault, err_text, out_text}
 use Rattle.cpl_driver.specs.Causes.{Call, Gets, IsCut, IsDelivery, IsFileReply, IsReply, IsUntouched, Stream, goes_out, longer, loaded, no_memory, not_loaded, of_file, out_of_memory, wrong_words}
 use Rattle.cpl_driver.specs.Files.{system_of}
 use Rattle.cpl_driver.specs.declared.system.System.{System}
@@ -28,11 +28,11 @@ nothing_delivered out err quiet silent = record {
 
 -- a file that isn't too long is read
 within : (name bytes : List ℕ) → length bytes ≤ most_bytes → reply_to name (Some bytes) ≡ reply_for (system_of bytes)
-within name bytes fits = ap (λ b. cond b (too_long name) (reply_for (system_of bytes))) (le-ltb most_bytes (length bytes) fits)
+within name bytes fits = ap (λ b. cond b (too_long_reply name) (reply_for (system_of bytes))) (le-ltb most_bytes (length bytes) fits)
 
 -- a file that is too long is refused
-beyond : (name bytes : List ℕ) → most_bytes < length bytes → reply_to name (Some bytes) ≡ too_long name
-beyond name bytes over = ap (λ b. cond b (too_long name) (reply_for (system_of bytes))) (lt-ltb most_bytes (length bytes) over)
+beyond : (name bytes : List ℕ) → most_bytes < length bytes → reply_to name (Some bytes) ≡ too_long_reply name
+beyond name bytes over = ap (λ b. cond b (too_long_reply name) (reply_for (system_of bytes))) (lt-ltb most_bytes (length bytes) over)
 
 -- the answer to words that name a file
 answer_at : (words : List (List ℕ)) (files : Files) (name : List ℕ) → file_to_run words ≡ Some name → answer words files ≡ reply_to name (files name)
@@ -40,7 +40,7 @@ unfolding answer
 answer_at words files name names = ap (reply_with files) names
 
 -- the answer to words that are no command
-answer_none : (words : List (List ℕ)) (files : Files) → file_to_run words ≡ None → answer words files ≡ usage
+answer_none : (words : List (List ℕ)) (files : Files) → file_to_run words ≡ None → answer words files ≡ usage_reply
 unfolding answer
 answer_none words files none = ap (reply_with files) none
 
@@ -139,8 +139,8 @@ serial_of call done files out err tells told_out told_err stays quiet silent las
           let text = all_told (goes_out reply.status) reply.text call.out call.err sent.1 sent.2 in
           rw (← is) (record {
             status_is = sent.0;
-            out_is = text.0 ∙ ap (λ told. bytes_after told (to_out reply)) told_out;
-            err_is = text.1 ∙ ap (λ told. bytes_after told (to_err reply)) told_err;
+            out_is = text.0 ∙ ap (λ told. bytes_after told (out_text reply)) told_out;
+            err_is = text.1 ∙ ap (λ told. bytes_after told (err_text reply)) told_err;
           })
       | inr (inl rose) ↦ absurd (not_both _ _ stays rose.1)
       | inr (inr memory) ↦ absurd (lasted (sent.0 ∙ ap (λ r. r.status) memory))
@@ -189,7 +189,7 @@ refused_cause words told files before after reply tells cause refused =
     ]
 
 -- ReadFault: the load of the named file failed
-read_fault_cause : (words : List (List ℕ)) (told : Option Files) (before after : ℕ) (reply : Reply) → IsReply words told before after reply → reply.status ≡ status.ReadFault → (name : List ℕ) × (file_to_run words ≡ Some name) × (Rises before after ⊎ IsMissing name told) × (reply ≡ unread name)
+read_fault_cause : (words : List (List ℕ)) (told : Option Files) (before after : ℕ) (reply : Reply) → IsReply words told before after reply → reply.status ≡ status.ReadFault → (name : List ℕ) × (file_to_run words ≡ Some name) × (Rises before after ⊎ IsMissing name told) × (reply ≡ unread_reply name)
 read_fault_cause words told before after reply (wrong_words none same is) fault = cc (ap (λ r. r.status) is)
 read_fault_cause words told before after reply (of_file name names (loaded bytes read fits same is)) fault =
     elim (status_for (system_of bytes)) [ inl ok ↦ cc (ap (λ r. r.status) is) | inr refused ↦ cc (ap (λ r. r.status) is) ]
@@ -271,10 +271,10 @@ causes_of call done =
           (from.0, from.1, from.2, from.3, rw (← from.4) sent.0, rw (← from.4) sent.1, sent.2, from.5);
       usage = λ is. usage_cause words call.told before after reply cause (given_is reply.status status.Usage call.status reply.text call.out call.err (λ e. cc) delivery is).0;
       usage_comes = λ none. given_or_fault reply.status status.Usage call.status reply.text call.out call.err delivery (none_cause words call.told before after reply cause none);
-      refused = λ is.
+      refusal = λ is.
           let sent = given_is reply.status status.Refused call.status reply.text call.out call.err (λ e. cc) delivery is in
           (quiet_cause words call.told before after reply cause sent.0, λ files tells. refused_cause words call.told files before after reply tells cause sent.0);
-      refused_comes = λ files tells refuses. refused_or_fault call files reply tells cause delivery refuses;
+      refusal_comes = λ files tells refuses. refused_or_fault call files reply tells cause delivery refuses;
       read_fault = λ is.
           let sent = given_is reply.status status.ReadFault call.status reply.text call.out call.err (λ e. cc) delivery is in
           let from = read_fault_cause words call.told before after reply cause sent.0 in

@@ -9,7 +9,7 @@ use Rattle.cpl_formula.specs.Tree.{value_of}
 use Rattle.std.proofs.lemmas.Nat.{div-add-mod'}
 use Rattle.std.proofs.Math.Nat.{mul-le-mul_right}
 use Rattle.cpl_driver.specs.Endings.{IsEnding}
-use Rattle.cpl_driver.specs.Runs.{Operation, initialise, run_at, first_world, apply, operations, rule_value, serial, world_after}
+use Rattle.cpl_driver.specs.Runs.{Operation, initialise, run_at, first_world, world_after_operation, operations, rule_value, final_world, world_after}
 use Rattle.cpl_driver.specs.declared.system.System.{System}
 
 -- the initialisation and the first n runs
@@ -23,13 +23,13 @@ done_more system n =
     ∙ ap (λ runs. initialise ∷ runs) (map_push run_at _ _)
 
 -- the world after one run more
-after_more : (system : System) (n : ℕ) → world_after system (done system (n + 1)) ≡ apply system (world_after system (done system n)) (run_at (0 + n * system.sequence.step))
-after_more system n = ap (world_after system) (done_more system n) ∙ fold_push (apply system) first_world (done system n) _
+after_more : (system : System) (n : ℕ) → world_after system (done system (n + 1)) ≡ world_after_operation system (world_after system (done system n)) (run_at (0 + n * system.sequence.step))
+after_more system n = ap (world_after system) (done_more system n) ∙ fold_push (world_after_operation system) first_world (done system n) _
 
 -- the same, where one cell is kept, and the inputs are all its value
 pub world_more : (system : System) (n clock : ℕ) (x y : ℤ) (inputs : List ℤ) → world_after system (done system n) ≡ record { clock = clock; runs = n; cells = x ∷ [] } → clock ≡ n * system.sequence.step → inputs ≡ replicate (length system.rule.reads) x → y ≡ value_of inputs system.rule.tree → world_after system (done system (n + 1)) ≡ record { clock = clock + system.sequence.step; runs = n + 1; cells = y ∷ [] }
 world_more system n clock x y inputs so_far at all is =
-    after_more system n ∙ ap (λ world. apply system world (run_at (0 + n * system.sequence.step))) so_far
+    after_more system n ∙ ap (λ world. world_after_operation system world (run_at (0 + n * system.sequence.step))) so_far
     ∙ ap (λ time. record { clock = time + system.sequence.step; runs = n + 1; cells = rule_value system x ∷ [] }) (zero-add _ ∙ sym at)
     ∙ ap (λ value. record { clock = clock + system.sequence.step; runs = n + 1; cells = value ∷ [] })
     (sym (is ∙ ap (λ given. value_of given system.rule.tree) (all ∙ splat_is_map system.rule.reads _ x refl)))
@@ -41,7 +41,7 @@ step_fits n step duration below =
 
 -- what is kept after the last run is what the serial run leaves
 pub ending_of : (system : System) (n clock : ℕ) (x : ℤ) → n ≡ system.sequence.duration / system.sequence.step → world_after system (done system n) ≡ record { clock = clock; runs = n; cells = x ∷ [] } → IsEnding system (record { operations = 1 + system.sequence.duration / system.sequence.step; runs = system.sequence.duration / system.sequence.step; clock = clock; value = x })
-unfolding serial
+unfolding final_world
 ending_of system n clock x last world =
     let end : world_after system (operations system) ≡ record { clock = clock; runs = n; cells = x ∷ [] } = rw (← last) world in
     record {

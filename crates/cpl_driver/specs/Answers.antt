@@ -5,7 +5,7 @@ use Rattle.std.specs.Str.{bytes_eq}
 use Rattle.cpl_base.specs.Numerals.{value_text}
 use Rattle.cpl_base.specs.Outside.{Files}
 use Rattle.cpl_driver.specs.Files.{system_of}
-use Rattle.cpl_driver.specs.Runs.{World, operations, serial}
+use Rattle.cpl_driver.specs.Runs.{World, operations, final_world}
 use Rattle.cpl_driver.specs.declared.status.Status.{Status}
 use Rattle.cpl_driver.specs.declared.status.Status.TheVariants as status
 use Rattle.cpl_driver.specs.declared.system.System.{System}
@@ -47,19 +47,19 @@ abbrev pub not_yet_built_line : List ℕ
 not_yet_built_line = codes "refused 62 NotYetBuilt 1" ++ end_of_line
 
 -- the least of the values, the greatest and the sum
-abbrev pub least : List ℤ → ℤ
-least [] = pos 0
-least (x ∷ xs) = fold int_min x xs
+abbrev pub least_of : List ℤ → ℤ
+least_of [] = pos 0
+least_of (x ∷ xs) = fold int_min x xs
 
 -- the greatest of the values
-abbrev pub most : List ℤ → ℤ
-most [] = pos 0
-most (x ∷ xs) = fold int_max x xs
+abbrev pub greatest_of : List ℤ → ℤ
+greatest_of [] = pos 0
+greatest_of (x ∷ xs) = fold int_max x xs
 
 -- their sum, which is exact
-abbrev pub sum : List ℤ → ℤ
-sum [] = pos 0
-sum (x ∷ xs) = fold ◌+ℤ◌ x xs
+abbrev pub total_of : List ℤ → ℤ
+total_of [] = pos 0
+total_of (x ∷ xs) = fold ◌+ℤ◌ x xs
 
 -- how many operations there were
 abbrev pub operations_line : ℕ → List ℕ
@@ -72,7 +72,7 @@ component_line name runs clock = codes "component " ++ name ++ codes " runs " ++
 -- the least, the greatest and the sum of a variable over its cells
 abbrev pub variable_line : List ℕ → List ℤ → List ℕ
 variable_line name cells =
-    codes "var " ++ name ++ codes " min " ++ value_text (least cells) ++ codes " max " ++ value_text (most cells) ++ codes " sum " ++ value_text (sum cells) ++ end_of_line
+    codes "var " ++ name ++ codes " min " ++ value_text (least_of cells) ++ codes " max " ++ value_text (greatest_of cells) ++ codes " sum " ++ value_text (total_of cells) ++ end_of_line
 
 -- what a run of a system leaves, as a text
 unfoldable pub report : System → ℕ → World → List ℕ
@@ -93,30 +93,30 @@ abbrev pub most_bytes : ℕ
 most_bytes = 4194304
 
 -- the reply to words that are no command
-abbrev pub usage : Reply
-usage = record { status = status.Usage; text = usage_line }
+abbrev pub usage_reply : Reply
+usage_reply = record { status = status.Usage; text = usage_line }
 
 -- the reply to a file that could not be read
-abbrev pub unread : List ℕ → Reply
-unread name = record { status = status.ReadFault; text = read_fault_line name }
+abbrev pub unread_reply : List ℕ → Reply
+unread_reply name = record { status = status.ReadFault; text = read_fault_line name }
 
 -- the reply to a file that is too long
-abbrev pub too_long : List ℕ → Reply
-too_long name = record { status = status.Refused; text = too_long_line name }
+abbrev pub too_long_reply : List ℕ → Reply
+too_long_reply name = record { status = status.Refused; text = too_long_line name }
 
 -- the reply to a file that is read: the serial run of the system that it describes, or a refusal
 abbrev pub reply_for : Option System → Reply
 reply_for None = record { status = status.Refused; text = not_yet_built_line }
-reply_for (Some system) = record { status = status.Ok; text = report system (length (operations system)) (serial system) }
+reply_for (Some system) = record { status = status.Ok; text = report system (length (operations system)) (final_world system) }
 
 -- the reply to a file of this name, with what it holds, if it is there
 abbrev pub reply_to : List ℕ → Option (List ℕ) → Reply
-reply_to name None = unread name
-reply_to name (Some bytes) = if nat_lt most_bytes (length bytes) then too_long name else reply_for (system_of bytes)
+reply_to name None = unread_reply name
+reply_to name (Some bytes) = if nat_lt most_bytes (length bytes) then too_long_reply name else reply_for (system_of bytes)
 
 -- the reply to a file to run, if the words name one
 abbrev pub reply_with : Files → Option (List ℕ) → Reply
-reply_with files None = usage
+reply_with files None = usage_reply
 reply_with files (Some name) = reply_to name (files name)
 
 -- what the words ask for, over these files

@@ -14,18 +14,18 @@ IsDone call =
     × IsDelivery reply.status reply.text call.out call.err call.status
 
 -- what a reply has for standard output
-abbrev pub to_out : Reply → List ℕ
-to_out reply = if goes_out reply.status then reply.text else []
+abbrev pub out_text : Reply → List ℕ
+out_text reply = if goes_out reply.status then reply.text else []
 
 -- what it has for standard error
-abbrev pub to_err : Reply → List ℕ
-to_err reply = if goes_out reply.status then [] else reply.text
+abbrev pub err_text : Reply → List ℕ
+err_text reply = if goes_out reply.status then [] else reply.text
 
 -- the status and the bytes are those of a reply
 pub record IsAnswer (reply : Reply) (out err : List ℕ) (call : Call) : Type 0 where
   pub status_is : call.status ≡ reply.status
-  pub out_is : call.out.after ≡ Some (out ++ to_out reply)
-  pub err_is : call.err.after ≡ Some (err ++ to_err reply)
+  pub out_is : call.out.after ≡ Some (out ++ out_text reply)
+  pub err_is : call.err.after ≡ Some (err ++ err_text reply)
 
 -- The headline. Where the shelf and the streams tell what they hold, no count of faults rose and memory
 -- lasted, status and bytes are those of the serial reading of the run sequence.
@@ -43,19 +43,30 @@ IsUnderFault call =
 -- The causes of every status, over every shelf and every stream.
 pub record HasCauses (call : Call) : Type 0 where
   -- Ok: a file was read that describes a system; it is the named one's, where the shelf tells it
-  pub ok : call.status ≡ status.Ok → (name bytes : List ℕ) × (file_to_run call.words ≡ Some name) × IfSome call.told (IsLoaded name bytes) × ((reply_for (system_of bytes)).status ≡ status.Ok) × Gets (reply_for (system_of bytes)).text call.out × IsUntouched call.err × (call.faults_after ≡ call.faults_before)
+  pub ok : call.status ≡ status.Ok
+      → (name bytes : List ℕ) × (file_to_run call.words ≡ Some name) × IfSome call.told (IsLoaded name bytes)
+      × ((reply_for (system_of bytes)).status ≡ status.Ok) × Gets (reply_for (system_of bytes)).text call.out
+      × IsUntouched call.err × (call.faults_after ≡ call.faults_before)
   -- Usage: exactly where the words are no command
   pub usage : call.status ≡ status.Usage → file_to_run call.words ≡ None
   pub usage_comes : file_to_run call.words ≡ None → (call.status ≡ status.Usage) ⊎ (call.status ≡ status.WriteFault)
   -- Refused: exactly where the definition refuses, no load having failed
-  pub refused : call.status ≡ status.Refused → (call.faults_after ≡ call.faults_before) × ((files : Files) → call.told ≡ Some files → (answer call.words files).status ≡ status.Refused)
-  pub refused_comes : (files : Files) → call.told ≡ Some files → (answer call.words files).status ≡ status.Refused → (call.status ≡ status.Refused) ⊎ IsUnderFault call
+  pub refusal : call.status ≡ status.Refused → (call.faults_after ≡ call.faults_before) × ((files : Files) → call.told ≡ Some files → (answer call.words files).status ≡ status.Refused)
+  pub refusal_comes : (files : Files) → call.told ≡ Some files → (answer call.words files).status ≡ status.Refused → (call.status ≡ status.Refused) ⊎ IsUnderFault call
   -- ReadFault: the shelf's count rose, or the shelf tells that it has no such file
-  pub read_fault : call.status ≡ status.ReadFault → (name : List ℕ) × (file_to_run call.words ≡ Some name) × (Rises call.faults_before call.faults_after ⊎ IsMissing name call.told) × Gets (read_fault_line name) call.err × IsUntouched call.out
+  pub read_fault : call.status ≡ status.ReadFault
+      → (name : List ℕ) × (file_to_run call.words ≡ Some name)
+      × (Rises call.faults_before call.faults_after ⊎ IsMissing name call.told)
+      × Gets (read_fault_line name) call.err × IsUntouched call.out
   pub read_fault_comes : call.faults_before < call.faults_after → (call.status ≡ status.ReadFault) ⊎ (call.status ≡ status.WriteFault) ⊎ (call.status ≡ status.Memory)
   -- WriteFault: in place of a reply, the count of whose stream rose, and whose text was cut short. Over
   -- a shelf that tells its files that reply is the answer, or the one to a load whose count rose.
-  pub write_fault : call.status ≡ status.WriteFault → (reply : Reply) × IsReply call.words call.told call.faults_before call.faults_after reply × IsCut reply.text (if goes_out reply.status then call.out else call.err) × IsUntouched (if goes_out reply.status then call.err else call.out) × ((files : Files) → call.told ≡ Some files → (reply ≡ answer call.words files) ⊎ ((reply.status ≡ status.ReadFault) × Rises call.faults_before call.faults_after))
+  pub write_fault : call.status ≡ status.WriteFault
+      → (reply : Reply) × IsReply call.words call.told call.faults_before call.faults_after reply
+      × IsCut reply.text (if goes_out reply.status then call.out else call.err)
+      × IsUntouched (if goes_out reply.status then call.err else call.out)
+      × ((files : Files) → call.told ≡ Some files
+      → (reply ≡ answer call.words files) ⊎ ((reply.status ≡ status.ReadFault) × Rises call.faults_before call.faults_after))
   pub write_fault_comes : (call.out.faults_before < call.out.faults_after) ⊎ (call.err.faults_before < call.err.faults_after) → call.status ≡ status.WriteFault
   -- want of memory: nothing was written
   pub memory : call.status ≡ status.Memory → IsUntouched call.out × IsUntouched call.err

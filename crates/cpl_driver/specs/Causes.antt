@@ -3,7 +3,7 @@
 use Rattle.std.specs.Prelude.{◌≡◌, ℕ, ◌<◌, ◌≤◌, ◌⊎◌, Bool, true, false, if◌then◌else◌, List, [], length, take, Option, Some, None, IfSome}
 use Rattle.cpl_base.specs.Loading.{IsLoaded, IsLonger, IsMissing}
 use Rattle.cpl_base.specs.Outside.{Files, Rises, bytes_after}
-use Rattle.cpl_driver.specs.Answers.{Reply, file_to_run, most_bytes, reply_for, too_long, unread, usage}
+use Rattle.cpl_driver.specs.Answers.{Reply, file_to_run, most_bytes, reply_for, too_long_reply, unread_reply, usage_reply}
 use Rattle.cpl_driver.specs.Files.{system_of}
 use Rattle.cpl_driver.specs.declared.status.Status.{Status}
 use Rattle.cpl_driver.specs.declared.status.Status.TheVariants as status
@@ -44,14 +44,14 @@ pub data IsFileReply (name : List ℕ) (told : Option Files) (before after : ℕ
   -- the file was read: these are its bytes, wherever the shelf tells them
   loaded : (bytes : List ℕ) → IfSome told (IsLoaded name bytes) → length bytes ≤ most_bytes → after ≡ before → reply ≡ reply_for (system_of bytes) → IsFileReply name told before after reply
   -- the file has more bytes than the limit
-  longer : IfSome told (IsLonger name most_bytes) → after ≡ before → reply ≡ too_long name → IsFileReply name told before after reply
+  longer : IfSome told (IsLonger name most_bytes) → after ≡ before → reply ≡ too_long_reply name → IsFileReply name told before after reply
   -- the file couldn't be read: the shelf's count rose, or it tells that it has no such file
-  not_loaded : Rises before after ⊎ IsMissing name told → before ≤ after → reply ≡ unread name → IsFileReply name told before after reply
+  not_loaded : Rises before after ⊎ IsMissing name told → before ≤ after → reply ≡ unread_reply name → IsFileReply name told before after reply
 
 -- Why this reply is given to the words.
 pub data IsReply (words : List (List ℕ)) (told : Option Files) (before after : ℕ) (reply : Reply) : Type 0 where
   -- the words are no command
-  wrong_words : file_to_run words ≡ None → after ≡ before → reply ≡ usage → IsReply words told before after reply
+  wrong_words : file_to_run words ≡ None → after ≡ before → reply ≡ usage_reply → IsReply words told before after reply
   -- they name a file
   of_file : (name : List ℕ) → file_to_run words ≡ Some name → IsFileReply name told before after reply → IsReply words told before after reply
   -- they name a file, and memory ran out
@@ -88,11 +88,11 @@ goes_out status.Memory = false
 
 -- A text went to its stream, and the status is the one that belongs to it; or a write failed, and the
 -- status is WriteFault.
-abbrev pub Delivered : Status → List ℕ → Stream → Status → Type 0
-Delivered wanted text mine given = ((given ≡ wanted) × Gets text mine) ⊎ ((given ≡ status.WriteFault) × IsCut text mine)
+abbrev pub IsSentOrCut : Status → List ℕ → Stream → Status → Type 0
+IsSentOrCut wanted text mine given = ((given ≡ wanted) × Gets text mine) ⊎ ((given ≡ status.WriteFault) × IsCut text mine)
 
 -- A reply of this status and text was delivered: to the stream where it belongs, whole or cut short by a fault of a write,
 -- and nothing to the other.
 pub record IsDelivery (wanted : Status) (text : List ℕ) (out err : Stream) (given : Status) : Type 0 where
-  pub mine : Delivered wanted text (if goes_out wanted then out else err) given
+  pub mine : IsSentOrCut wanted text (if goes_out wanted then out else err) given
   pub other : IsUntouched (if goes_out wanted then err else out)

@@ -4,7 +4,7 @@ use Rattle.std.specs.Prelude.{ℕ, ℤ, Bool, true, false, not, ◌&&◌, ◌||�
 use Rattle.std.specs.List.{slice_split, list_all, join_with_byte}
 use Rattle.std.specs.Result.{result_ok}
 use Rattle.std.specs.Str.{bytes_eq}
-use Rattle.cpl_base.specs.Chain.{◌>>=◌, single, some_if}
+use Rattle.cpl_base.specs.Chain.{◌>>=◌, sole_member, some_if}
 use Rattle.cpl_base.specs.Numerals.{cut_at, number_word}
 use Rattle.cpl_base.specs.Words.{is_name, is_name_byte, is_some_of, rest_behind, words_of}
 use Rattle.cpl_formula.specs.declared.formula.Parsed.{Parsed}
@@ -36,7 +36,7 @@ line_at lines place = slice_index_or lines place []
 abbrev pub component_of : List (List ℕ) → Option (List ℕ)
 component_of words = do
   values ← values_of (codes "EARTH_component_list") words
-  name ← single values
+  name ← sole_member values
   _ ← some_if (is_name name)
   Some name
 
@@ -62,7 +62,7 @@ variable_of component lines = do
   _ ← some_if (opens_table (component ++ codes "_vars") (line_at lines 2))
   row ← assignment_of (line_at lines 3)
   _ ← some_if (is_field_name row.0)
-  word ← single row.1
+  word ← sole_member row.1
   start ← constant_of word
   _ ← some_if (closes_table (line_at lines 4))
   Some (row.0, start)
@@ -108,7 +108,7 @@ is_loop step duration =
 -- the loop that a row `@STEP:DURATION` opens
 unfoldable pub loop_in : List (List ℕ) → Option Loop
 loop_in words = do
-  word ← single words
+  word ← sole_member words
   numbers ← rest_behind (codes "@") word
   halves ← cut_at 58 numbers
   step ← number_word halves.0

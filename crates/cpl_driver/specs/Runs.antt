@@ -15,7 +15,7 @@ pub data Operation : Type 0 where
 abbrev pub iterations : Loop → ℕ → List ℕ
 iterations loop begin = map (λ n. begin + n * loop.step) (range_with_len 0 (loop.duration / loop.step))
 
--- the operations of a system: those of the initialisation, then the unrolled run sequence
+-- the operations of a system: those of the initialisation, then those of the run sequence
 abbrev pub operations : System → List Operation
 operations system = initialise ∷ map run_at (iterations system.sequence 0)
 
@@ -40,15 +40,15 @@ rule_value system value = value_of (map (read_value value) system.rule.reads) sy
 
 -- What an operation makes of the world. A run reads the world as it was; after it the clock has gone
 -- on by the step.
-abbrev pub apply : System → World → Operation → World
-apply system world initialise = record world { cells = map (λ _. system.start) world.cells }
-apply system world (run_at time) =
+abbrev pub world_after_operation : System → World → Operation → World
+world_after_operation system world initialise = record world { cells = map (λ _. system.start) world.cells }
+world_after_operation system world (run_at time) =
     record { clock = time + system.sequence.step; runs = world.runs + 1; cells = map (rule_value system) world.cells }
 
 -- the world after some operations
 abbrev pub world_after : System → List Operation → World
-world_after system done = fold (apply system) first_world done
+world_after system done = fold (world_after_operation system) first_world done
 
 -- the world after all operations
-unfoldable pub serial : System → World
-serial system = world_after system (operations system)
+unfoldable pub final_world : System → World
+final_world system = world_after system (operations system)

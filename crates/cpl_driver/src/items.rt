@@ -1,7 +1,7 @@
 //! The lines of a resource file and what single lines say.
 
 ghost use Rattle.std.specs.Prelude.{◌≡◌, ◌<◌, ◌++◌, codes, length, IfOk, option_map};
-ghost use Rattle.cpl_base.specs.Chain.{single};
+ghost use Rattle.cpl_base.specs.Chain.{sole_member};
 ghost use Rattle.cpl_driver.specs.Files.{assignment_of, line_at, lines_of};
 ghost use Rattle.cpl_base.specs.Words.{rest_behind, texts};
 ghost use Rattle.cpl_driver.specs.Names.{closes_table, is_word, opens_table, values_of};
@@ -35,7 +35,7 @@ pub fn line_at<'a>(lines: &'a [Vec<&'a [u8]>], place: usize) -> &'a [&'a [u8]]
 
 /// The one word of a line that has just one.
 pub fn single<'a>(words: &[&'a [u8]]) -> Option<&'a [u8]>
-    ensures { option_map (λ word. word.now) result ≡ single (texts words.now) }
+    ensures { option_map (λ word. word.now) result ≡ sole_member (texts words.now) }
 {
     match words {
         [word] => Some(word),

@@ -2,7 +2,7 @@
 
 ghost use Rattle.std.specs.Prelude.{◌≡◌, IfOk};
 ghost use Rattle.cpl_driver.specs.Reads.{IsSound};
-ghost use Rattle.cpl_driver.specs.Runs.{operations, serial};
+ghost use Rattle.cpl_driver.specs.Runs.{operations, final_world};
 ghost use Rattle.cpl_driver.specs.Endings.{IsEnding};
 
 use crate::system::System;

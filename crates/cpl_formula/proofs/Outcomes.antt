@@ -5,7 +5,7 @@ use Rattle.cpl_formula.specs.Formulas.Outcome.{tangles, is_faulty, ends_early, i
 use Rattle.cpl_formula.specs.Grammar.{Expr, yield_of_expr, input_of, tree_of_expr, reads_of_expr, depth_of_expr}
 use Rattle.cpl_formula.specs.Grammar.Atom.{field}
 use Rattle.cpl_formula.specs.Reads.{distinct_reads, with_read}
-use Rattle.cpl_formula.specs.Steps.{start, walk, at_end, finished, last_operand, ended, expr_at, leaf, fault_at, parsed_of}
+use Rattle.cpl_formula.specs.Steps.{start_state, walk, outcome_of_walk, outcome_at_end, last_operand, outcome_of_part, expr_at, leaf, fault_at, parsed_of}
 use Rattle.cpl_formula.specs.Tokens.{Placed, is_tangled, tokens_of}
 use Rattle.cpl_formula.specs.declared.fault.FormulaFault.{FormulaFault}
 use Rattle.cpl_formula.specs.declared.fault.FormulaFault.TheVariants as faults
@@ -31,10 +31,10 @@ use Rattle.cpl_formula.proofs.Walking.Run.{through, stopped}
 -- what the end of a text makes of the derivation that ends there, if one does
 abbrev ending_of : ℕ → List Read → Option Expr → Result Parsed FormulaFault
 ending_of end all None = Err (faults.Syntax end)
-ending_of end all (Some e) = ended all (part_of_expr all e)
+ending_of end all (Some e) = outcome_of_part all (part_of_expr all e)
 
 not_closed : (end : ℕ) (frames : List Frame) (f : Frame) (level : Level) (last : List Read × Part)
-    → finished end (frames ++ f ∷ []) level (Some last) ≡ Err (faults.Syntax end)
+    → outcome_at_end end (frames ++ f ∷ []) level (Some last) ≡ Err (faults.Syntax end)
 not_closed end [] f level last = refl
 not_closed end (g ∷ frames) f level last = refl
 
@@ -42,13 +42,13 @@ abbrev all_of : List (Waits × Opened) → Waits → List Read → Place → Lis
 all_of brackets w done p = distinct_reads (settled_by brackets w done p).done
 
 finishes_by : (end : ℕ) (brackets : List (Waits × Opened)) (w : Waits) (done : List Read) (p : Place)
-    → finished end (shown_frames (all_of brackets w done p) brackets) (shown_level (all_of brackets w done p) w) (last_operand (distinct_reads done) (shown_mode (all_of brackets w done p) p)) ≡ ending_of end (all_of brackets w done p) (whole (settled_by brackets w done p))
-finishes_by end [] w done (behind a) = ap (ended (distinct_reads done)) (expr_same (distinct_reads done) w a)
+    → outcome_at_end end (shown_frames (all_of brackets w done p) brackets) (shown_level (all_of brackets w done p) w) (last_operand (distinct_reads done) (shown_mode (all_of brackets w done p) p)) ≡ ending_of end (all_of brackets w done p) (whole (settled_by brackets w done p))
+finishes_by end [] w done (behind a) = ap (outcome_of_part (distinct_reads done)) (expr_same (distinct_reads done) w a)
 finishes_by end [] w done (named k) =
     let all = distinct_reads (done ++ here k ∷ []) in
-    let first : ended (with_read (distinct_reads done) (here k)) (expr_at (shown_level all w) (leaf (input_of (distinct_reads done) (here k)))) ≡ ended all (expr_at (shown_level all w) (leaf (input_of all (here k)))) =
-    λ i. ended (sym (distinct_snoc done (here k)) i) (expr_at (shown_level all w) (last_input all done (here k) (extends_self all) i)) in
-    first ∙ ap (ended all) (expr_same all w (field k))
+    let first : outcome_of_part (with_read (distinct_reads done) (here k)) (expr_at (shown_level all w) (leaf (input_of (distinct_reads done) (here k)))) ≡ outcome_of_part all (expr_at (shown_level all w) (leaf (input_of all (here k)))) =
+    λ i. outcome_of_part (sym (distinct_snoc done (here k)) i) (expr_at (shown_level all w) (last_input all done (here k) (extends_self all) i)) in
+    first ∙ ap (outcome_of_part all) (expr_same all w (field k))
 finishes_by end [] w done p = refl
 finishes_by end (b ∷ brackets) w done (behind a) = not_closed end (shown_frames (distinct_reads done) brackets) (shown_frame (distinct_reads done) b) (shown_level (distinct_reads done) w) _
 finishes_by end (b ∷ brackets) w done (named k) =
@@ -60,39 +60,39 @@ finishes_by end (b ∷ brackets) w done p = refl
 
 -- what reading makes of tokens, where a text of this length is tangled or not
 abbrev made_of : Bool → List Placed → ℕ → Result Parsed FormulaFault
-made_of tangled tokens end = if tangled then Err faults.DeepFormula else at_end end (walk 0 ([], start) tokens)
+made_of tangled tokens end = if tangled then Err faults.DeepFormula else outcome_of_walk end (walk 0 ([], start_state) tokens)
 
 -- over all tokens
 made_through : (tokens : List Placed) (end : ℕ) (final : Standing) → go beginning (kinds tokens) ≡ Some final
     → made_of false tokens end ≡ ending_of end (distinct_reads (settled final).done) (whole (settled final))
 made_through tokens end final goes =
     let all = distinct_reads (settled final).done in
-    let whole_walk : walk 0 ([], start) (tokens ++ []) ≡ Ok (distinct_reads final.done, shown all final) = walk_over all tokens [] beginning final 0 goes (settled_grows final) in
-    ap (λ (ts : List Placed). at_end end (walk 0 ([], start) ts)) (sym (append-nil tokens)) ∙ ap (at_end end) whole_walk ∙ finishes_by end final.brackets final.waits final.done final.place
+    let whole_walk : walk 0 ([], start_state) (tokens ++ []) ≡ Ok (distinct_reads final.done, shown all final) = walk_over all tokens [] beginning final 0 goes (settled_grows final) in
+    ap (λ (ts : List Placed). outcome_of_walk end (walk 0 ([], start_state) ts)) (sym (append-nil tokens)) ∙ ap (outcome_of_walk end) whole_walk ∙ finishes_by end final.brackets final.waits final.done final.place
 
 -- up to the token where reading stops
 made_stopped : (tokens : List Placed) (end : ℕ) (front : List Placed) (t : Placed) (rest : List Placed) (s : Standing)
     → tokens ≡ front ++ (t ∷ rest) → go beginning (kinds front) ≡ Some s → advance s t.token ≡ None
     → made_of false tokens end ≡ Err (fault_at (kind_of s.place t.token) (last_place 0 front) t.at)
 made_stopped tokens end front t rest s parted goes stops =
-    ap (λ (ts : List Placed). at_end end (walk 0 ([], start) ts)) parted ∙ ap (at_end end) (walk_stops front t rest beginning s 0 goes stops)
+    ap (λ (ts : List Placed). outcome_of_walk end (walk 0 ([], start_state) ts)) parted ∙ ap (outcome_of_walk end) (walk_stops front t rest beginning s 0 goes stops)
 
 -- over the tokens of a derivation
 made_derived : (tokens : List Placed) (end : ℕ) (e : Expr) → kinds tokens ≡ yield_of_expr e
-    → made_of false tokens end ≡ ended (distinct_reads (reads_of_expr e)) (part_of_expr (distinct_reads (reads_of_expr e)) e)
+    → made_of false tokens end ≡ outcome_of_part (distinct_reads (reads_of_expr e)) (part_of_expr (distinct_reads (reads_of_expr e)) e)
 made_derived tokens end e spelled =
     let there : Reached e = reached e in
-    made_through tokens end there.stands (ap (go beginning) spelled ∙ there.goes) ∙ ap (ending_of end (distinct_reads (settled there.stands).done)) there.is_whole ∙ ap (λ (done : List Read). ended (distinct_reads done) (part_of_expr (distinct_reads done) e)) there.reads
+    made_through tokens end there.stands (ap (go beginning) spelled ∙ there.goes) ∙ ap (ending_of end (distinct_reads (settled there.stands).done)) there.is_whole ∙ ap (λ (done : List Read). outcome_of_part (distinct_reads done) (part_of_expr (distinct_reads done) e)) there.reads
 
 made_deep : (tokens : List Placed) (end : ℕ) (e : Expr) → kinds tokens ≡ yield_of_expr e → 32 < depth_of_expr e → made_of false tokens end ≡ Err faults.DeepFormula
 made_deep tokens end e spelled large =
     let reads = distinct_reads (reads_of_expr e) in
-    made_derived tokens end e spelled ∙ ap (ended reads) (deep (tree_of_expr reads e) (depth_of_expr e) large)
+    made_derived tokens end e spelled ∙ ap (outcome_of_part reads) (deep (tree_of_expr reads e) (depth_of_expr e) large)
 
 made_formula : (tokens : List Placed) (end : ℕ) (e : Expr) → kinds tokens ≡ yield_of_expr e → depth_of_expr e ≤ 32 → made_of false tokens end ≡ Ok (formula_of e)
 made_formula tokens end e spelled small =
     let reads = distinct_reads (reads_of_expr e) in
-    made_derived tokens end e spelled ∙ ap (ended reads) (kept (tree_of_expr reads e) (depth_of_expr e) small)
+    made_derived tokens end e spelled ∙ ap (outcome_of_part reads) (kept (tree_of_expr reads e) (depth_of_expr e) small)
 
 -- tokens that aren't those of a derivation
 not_whole : (tokens : List Placed) (final : Standing) → go beginning (kinds tokens) ≡ Some final → whole (settled final) ≡ None → (e : Expr)

@@ -2,7 +2,7 @@
 use Rattle.std.proofs.Common.{◌≡◌, ℕ, List, [], ◌∷◌, ◌++◌, Option, Some, None, refl, ap, ◌∙◌}
 use Rattle.cpl_formula.specs.Functions.{tree_of_binary, tree_of_ternary, tree_of_unary}
 use Rattle.cpl_formula.specs.Grammar.{Expr, Term, Atom, tree_of_sum, tree_of_product, offset_number, tree_of_expr, tree_of_term, tree_of_factor, depth_of_expr, depth_of_term, depth_of_factor}
-use Rattle.cpl_formula.specs.Steps.{with_product, with_sum, term_at, expr_at, opening_of, closed_part, next_opening, onto_front, split_last, joined}
+use Rattle.cpl_formula.specs.Steps.{with_product, with_sum, term_at, expr_at, opening_of, closed_part, next_opening, onto_front, split_last, joined_part}
 use Rattle.cpl_formula.specs.Steps as steps
 use Rattle.cpl_formula.specs.declared.formula.Read.{Read}
 use Rattle.cpl_formula.specs.declared.state.Frame.{Frame}
@@ -39,11 +39,11 @@ abbrev pub shown_level : List Read → Waits → Level
 shown_level reads w = record { sum = shown_sum reads w.sums; product = shown_product reads w.products; minus = counted w.minuses }
 
 with_product_same : (reads : List Read) (products : Option (Term × ProductSign)) (n : ℕ) (a : Atom)
-    → with_product (shown_product reads products) (steps.negated (counted n) (part_of_atom reads a)) ≡ part_of_term reads (standing.with_product products (standing.negated n a))
+    → with_product (shown_product reads products) (steps.part_with_minuses (counted n) (part_of_atom reads a)) ≡ part_of_term reads (standing.with_product products (standing.negated n a))
 with_product_same reads None n a = negated_same reads n a
 with_product_same reads (Some p) n a =
     let f = standing.negated n a in
-    ap (joined (tree_of_product p.1) (part_of_term reads p.0)) (negated_same reads n a) ∙ joined_cut (tree_of_product p.1) (tree_of_term reads p.0) (tree_of_factor reads f) (depth_of_term p.0) (depth_of_factor f)
+    ap (joined_part (tree_of_product p.1) (part_of_term reads p.0)) (negated_same reads n a) ∙ joined_cut (tree_of_product p.1) (tree_of_term reads p.0) (tree_of_factor reads f) (depth_of_term p.0) (depth_of_factor f)
 
 pub term_same : (reads : List Read) (w : Waits) (a : Atom) → term_at (shown_level reads w) (part_of_atom reads a) ≡ part_of_term reads (standing.term_at w a)
 term_same reads w a = with_product_same reads w.products w.minuses a

@@ -4,7 +4,7 @@ use Rattle.std.proofs.lemmas.Bool.{lt-leb}
 use Rattle.cpl_formula.specs.Grammar.{Expr, Atom, Offset, offset_number, input_of}
 use Rattle.cpl_formula.specs.Grammar.Atom.{field}
 use Rattle.cpl_formula.specs.Reads.{with_read, distinct_reads, read_at}
-use Rattle.cpl_formula.specs.Steps.{At, state, opened, split_last, step, step_by, behind, close, after_close, comma, after_comma, leaf}
+use Rattle.cpl_formula.specs.Steps.{At, state, state_in_bracket, split_last, step, step_by, step_after_operand, step_at_close, after_close, step_at_comma, after_comma, leaf}
 use Rattle.cpl_formula.specs.declared.formula.Read.{Read}
 use Rattle.cpl_formula.specs.declared.formula.ReadName.TheVariants as names
 use Rattle.cpl_formula.specs.declared.state.Frame.{Frame}
@@ -55,7 +55,7 @@ after_close_same all brackets w done None = λ more. refl
 after_close_same all brackets w done (Some a) = λ more. refl
 
 close_same : (all : List Read) (brackets : List (Waits × Opened)) (done : List Read) (e : Expr)
-    → StepIs all done stop.Syntax (close (distinct_reads done) (part_of_expr all e) (split_last (shown_frames all brackets))) (standing.close brackets done e)
+    → StepIs all done stop.Syntax (step_at_close (distinct_reads done) (part_of_expr all e) (split_last (shown_frames all brackets))) (standing.close brackets done e)
 close_same all [] done e = λ more. refl
 close_same all (b ∷ brackets) done e =
     rw (split_behind (shown_frames all brackets) (shown_frame all b), closed_same all b.1 e) (after_close_same all brackets b.0 done (standing.closed_atom b.1 e))
@@ -66,13 +66,13 @@ after_comma_same all brackets w done None = λ more. refl
 after_comma_same all brackets w done (Some o) = λ more. refl
 
 comma_same : (all : List Read) (brackets : List (Waits × Opened)) (done : List Read) (e : Expr)
-    → StepIs all done stop.Syntax (comma (distinct_reads done) (part_of_expr all e) (split_last (shown_frames all brackets))) (standing.comma brackets done e)
+    → StepIs all done stop.Syntax (step_at_comma (distinct_reads done) (part_of_expr all e) (split_last (shown_frames all brackets))) (standing.comma brackets done e)
 comma_same all [] done e = λ more. refl
 comma_same all (b ∷ brackets) done e =
     rw (split_behind (shown_frames all brackets) (shown_frame all b), next_same all b.1 e) (after_comma_same all brackets b.0 done (standing.next_opened b.1 e))
 
 behind_same : (all : List Read) (brackets : List (Waits × Opened)) (w : Waits) (done : List Read) (a : Atom) (t : Token)
-    → StepIs all done stop.Syntax (behind (distinct_reads done) (shown_frames all brackets) (shown_level all w) (part_of_atom all a) t) (at_behind brackets w done a t)
+    → StepIs all done stop.Syntax (step_after_operand (distinct_reads done) (shown_frames all brackets) (shown_level all w) (part_of_atom all a) t) (at_behind brackets w done a t)
 behind_same all brackets w done a (token.Sum sign) = λ more. ap (behind_sum (distinct_reads done) (shown_frames all brackets) sign) (expr_same all w a)
 behind_same all brackets w done a (token.Product sign) = λ more. ap (behind_product (distinct_reads done) (shown_frames all brackets) (shown_level all w) sign) (term_same all w a)
 behind_same all brackets w done a token.Close = rw (expr_same all w a) (close_same all brackets done (standing.expr_at w a))
@@ -124,13 +124,13 @@ abbrev settled_done : List Read → ℕ → List Read
 settled_done done k = done ++ here k ∷ []
 
 field_same : (all : List Read) (brackets : List (Waits × Opened)) (w : Waits) (done : List Read) (k : ℕ) (t : Token)
-    → StepIs all (settled_done done k) stop.Syntax (behind (with_read (distinct_reads done) (here k)) (shown_frames all brackets) (shown_level all w) (leaf (input_of (distinct_reads done) (here k))) t) (at_behind brackets w (settled_done done k) (field k) t)
+    → StepIs all (settled_done done k) stop.Syntax (step_after_operand (with_read (distinct_reads done) (here k)) (shown_frames all brackets) (shown_level all w) (leaf (input_of (distinct_reads done) (here k))) t) (at_behind brackets w (settled_done done k) (field k) t)
 field_same all brackets w done k t =
     instead all (settled_done done k) stop.Syntax
-    (behind (distinct_reads (settled_done done k)) (shown_frames all brackets) (shown_level all w) (part_of_atom all (field k)) t)
-    (behind (with_read (distinct_reads done) (here k)) (shown_frames all brackets) (shown_level all w) (leaf (input_of (distinct_reads done) (here k))) t)
+    (step_after_operand (distinct_reads (settled_done done k)) (shown_frames all brackets) (shown_level all w) (part_of_atom all (field k)) t)
+    (step_after_operand (with_read (distinct_reads done) (here k)) (shown_frames all brackets) (shown_level all w) (leaf (input_of (distinct_reads done) (here k))) t)
     (at_behind brackets w (settled_done done k) (field k) t)
-    (λ more. λ i. behind (sym (distinct_snoc done (here k)) i) (shown_frames all brackets) (shown_level all w) (last_input all done (here k) more i) t)
+    (λ more. λ i. step_after_operand (sym (distinct_snoc done (here k)) i) (shown_frames all brackets) (shown_level all w) (last_input all done (here k) more i) t)
     (behind_keeps brackets w (settled_done done k) (field k) t)
     (behind_same all brackets w (settled_done done k) (field k) t)
 
@@ -161,7 +161,7 @@ wanted_same all brackets w done (token.Quantity q) = λ more. read_same all (sho
 wanted_same all brackets w done t = λ more. refl
 
 abbrev opened_as : List Read → List Frame → Level → Opening → Result At Stop
-opened_as reads frames level opening = Ok (reads, opened frames level opening)
+opened_as reads frames level opening = Ok (reads, state_in_bracket frames level opening)
 
 called_same : (all : List Read) (brackets : List (Waits × Opened)) (w : Waits) (done : List Read) (f : Function) (t : Token)
     → StepIs all done stop.Syntax (step_by (distinct_reads done) (shown_frames all brackets) (shown_level all w) (mode.Called f) t) (at_called brackets w done f t)

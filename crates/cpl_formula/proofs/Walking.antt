@@ -4,7 +4,7 @@ use Rattle.cpl_formula.specs.Formulas.{kinds}
 use Rattle.cpl_formula.specs.Grammar.{Near, Offset}
 use Rattle.cpl_formula.specs.Grammar.Atom.{field}
 use Rattle.cpl_formula.specs.Reads.{distinct_reads}
-use Rattle.cpl_formula.specs.Steps.{At, walk, carry_on, step, fault_at}
+use Rattle.cpl_formula.specs.Steps.{At, walk, continuation, step, fault_at}
 use Rattle.cpl_formula.specs.Tokens.{Placed}
 use Rattle.cpl_formula.specs.declared.formula.Read.{Read}
 use Rattle.cpl_formula.specs.declared.fault.Stop.{Stop}
@@ -98,11 +98,11 @@ walk_by : (all : List Read) (t : Placed) (ts rest : List Placed) (s final : Stan
     → StepIs all (settled s).done (kind_of s.place t.token) (step (distinct_reads s.done) (shown all s) t.token) o
     → and_then o (λ next. go next (kinds ts)) ≡ Some final → Extends all (distinct_reads final.done)
     → ((next : Standing) → go next (kinds ts) ≡ Some final → walk t.at (distinct_reads next.done, shown all next) (ts ++ rest) ≡ walk (last_place t.at ts) (distinct_reads final.done, shown all final) rest)
-    → carry_on before t.at (step (distinct_reads s.done) (shown all s) t.token) (λ next. walk t.at next (ts ++ rest)) ≡ walk (last_place t.at ts) (distinct_reads final.done, shown all final) rest
+    → continuation before t.at (step (distinct_reads s.done) (shown all s) t.token) (λ next. walk t.at next (ts ++ rest)) ≡ walk (last_place t.at ts) (distinct_reads final.done, shown all final) rest
 walk_by all t ts rest s final before None is goes more after = absurd (cc)
 walk_by all t ts rest s final before (Some next) is goes more after =
     let enough = extends_through all (distinct_reads final.done) (distinct_reads next.done) more (go_grows (kinds ts) next final goes) in
-    ap (λ (r : Result At Stop). carry_on before t.at r (λ (next : At). walk t.at next (ts ++ rest))) (is enough) ∙ after next goes
+    ap (λ (r : Result At Stop). continuation before t.at r (λ (next : At). walk t.at next (ts ++ rest))) (is enough) ∙ after next goes
 
 pub walk_over : (all : List Read) (ts rest : List Placed) (s final : Standing) (before : ℕ) → go s (kinds ts) ≡ Some final
     → Extends all (distinct_reads final.done)
@@ -118,7 +118,7 @@ stop_by : (all : List Read) (t : Placed) (rest : List Placed) (s : Standing) (be
     → StepIs all (settled s).done (kind_of s.place t.token) (step (distinct_reads s.done) (shown all s) t.token) o → o ≡ None
     → Extends all (distinct_reads (settled s).done)
     → walk before (distinct_reads s.done, shown all s) (t ∷ rest) ≡ Err (fault_at (kind_of s.place t.token) before t.at)
-stop_by all t rest s before None is stops more = ap (λ (r : Result At Stop). carry_on before t.at r (λ (next : At). walk t.at next rest)) (is more)
+stop_by all t rest s before None is stops more = ap (λ (r : Result At Stop). continuation before t.at r (λ (next : At). walk t.at next rest)) (is more)
 stop_by all t rest s before (Some next) is stops more = absurd (cc)
 
 settled_grows_by : (brackets : List (Waits × Opened)) (w : Waits) (done : List Read) (p : Place) → Extends (distinct_reads (settled_by brackets w done p).done) (distinct_reads done)

@@ -3,7 +3,7 @@ use Rattle.std.specs.Prelude.{ℕ, ℤ, pos, ◌-◌, unsigned_abs, Bool, false,
 use Rattle.std.specs.List.{list_all}
 use Rattle.cpl_base.specs.Chain.{◌>>=◌, some_if}
 use Rattle.cpl_base.specs.Numbers.{IsValue}
-use Rattle.cpl_base.specs.Numerals.{cut_at, signed, signed_part, value_of}
+use Rattle.cpl_base.specs.Numerals.{cut_at, signed_integer, signed_part, value_of}
 use Rattle.cpl_base.specs.Words.{is_digit, is_letter, is_name_byte, is_some_of, place_of}
 use Rattle.cpl_base.specs.declared.value.ValFault.{ValFault}
 use Rattle.cpl_base.specs.declared.value.ValFault.TheVariants.{Digits}
@@ -31,7 +31,7 @@ digit_word word = None
 
 -- an offset: one digit, behind a minus or not
 abbrev pub offset_word : List ℕ → Option ℤ
-offset_word word = let s = signed_part word in digit_word s.1 >>= (λ d. Some (signed s.0 d))
+offset_word word = let s = signed_part word in digit_word s.1 >>= (λ d. Some (signed_integer s.0 d))
 
 -- what stands behind a `[`: two offsets with a comma between them, and `]` at the end
 abbrev pub offset_words : List ℕ → Option (ℤ × ℤ)

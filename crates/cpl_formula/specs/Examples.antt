@@ -32,17 +32,17 @@ use Rattle.cpl_formula.specs.declared.tokens.Token.{Token}
 use Rattle.cpl_formula.specs.declared.tokens.Token.TheVariants as token
 
 -- what is read of a text over the fields `x` and `y` and the alarm `a`
-abbrev pub read : List ℕ → Result Parsed FormulaFault
-read = parsed_of (codes "x" ∷ codes "y" ∷ []) (codes "a" ∷ [])
+abbrev pub outcome_of : List ℕ → Result Parsed FormulaFault
+outcome_of = parsed_of (codes "x" ∷ codes "y" ∷ []) (codes "a" ∷ [])
 
 -- a tree with its reads
 abbrev pub formula : Formula → List Read → Result Parsed FormulaFault
 formula tree reads = Ok record { tree = tree; reads = reads }
 
 -- a text, so many times
-abbrev pub times_over : ℕ → List ℕ → List ℕ
-times_over zero text = []
-times_over (suc n) text = text ++ times_over n text
+abbrev pub copies_of : ℕ → List ℕ → List ℕ
+copies_of zero text = []
+copies_of (suc n) text = text ++ copies_of n text
 
 -- ---- trees
 
@@ -58,32 +58,32 @@ units n = number (pos (n * million))
 abbrev pub input : ℕ → Formula
 input k = roll-Formula (tree.Input k)
 
-abbrev pub minus : Formula → Formula
-minus a = roll-Formula (tree.Minus a)
+abbrev pub minus_tree : Formula → Formula
+minus_tree a = roll-Formula (tree.Minus a)
 
-abbrev pub absolute : Formula → Formula
-absolute a = roll-Formula (tree.Abs a)
+abbrev pub abs_tree : Formula → Formula
+abs_tree a = roll-Formula (tree.Abs a)
 
-abbrev pub plus : Formula → Formula → Formula
-plus a b = roll-Formula (tree.Plus a b)
+abbrev pub plus_tree : Formula → Formula → Formula
+plus_tree a b = roll-Formula (tree.Plus a b)
 
-abbrev pub less : Formula → Formula → Formula
-less a b = roll-Formula (tree.Less a b)
+abbrev pub less_tree : Formula → Formula → Formula
+less_tree a b = roll-Formula (tree.Less a b)
 
-abbrev pub times : Formula → Formula → Formula
-times a b = roll-Formula (tree.Times a b)
+abbrev pub times_tree : Formula → Formula → Formula
+times_tree a b = roll-Formula (tree.Times a b)
 
-abbrev pub over : Formula → Formula → Formula
-over a b = roll-Formula (tree.Over a b)
+abbrev pub over_tree : Formula → Formula → Formula
+over_tree a b = roll-Formula (tree.Over a b)
 
-abbrev pub least : Formula → Formula → Formula
-least a b = roll-Formula (tree.Min a b)
+abbrev pub min_tree : Formula → Formula → Formula
+min_tree a b = roll-Formula (tree.Min a b)
 
-abbrev pub greater : Formula → Formula → Formula
-greater a b = roll-Formula (tree.Max a b)
+abbrev pub max_tree : Formula → Formula → Formula
+max_tree a b = roll-Formula (tree.Max a b)
 
-abbrev pub select : Formula → Formula → Formula → Formula
-select c a b = roll-Formula (tree.Select c a b)
+abbrev pub select_tree : Formula → Formula → Formula → Formula
+select_tree c a b = roll-Formula (tree.Select c a b)
 
 -- ---- reads
 
@@ -99,94 +99,94 @@ y_here = read_at (names.Field 1) (pos 0) (pos 0)
 
 -- texts that are formulas, with their trees and reads
 pub record FormulaTexts : Type 0 where
-  pub digit : read (codes "3") ≡ formula (units 3) []
-  pub long_number : read (codes "012.50") ≡ formula (number (pos 12500000)) []
-  pub field : read (codes "y") ≡ formula (input 0) (y_here ∷ [])
-  pub sum : read (codes "x + 1") ≡ formula (plus (input 0) (units 1)) (x_here ∷ [])
-  pub difference : read (codes "x - 1") ≡ formula (less (input 0) (units 1)) (x_here ∷ [])
-  pub product : read (codes "x * y") ≡ formula (times (input 0) (input 1)) (x_here ∷ y_here ∷ [])
-  pub quotient : read (codes "x/2") ≡ formula (over (input 0) (units 2)) (x_here ∷ [])
-  pub chain_of_sums : read (codes "x - 1 - 2") ≡ formula (less (less (input 0) (units 1)) (units 2)) (x_here ∷ [])
-  pub chain_of_products : read (codes "x / 2 / 3") ≡ formula (over (over (input 0) (units 2)) (units 3)) (x_here ∷ [])
-  pub product_before_sum : read (codes "1 + x * 2 - 3") ≡ formula (less (plus (units 1) (times (input 0) (units 2))) (units 3)) (x_here ∷ [])
-  pub brackets : read (codes "(1 + x) * 2") ≡ formula (times (plus (units 1) (input 0)) (units 2)) (x_here ∷ [])
-  pub minus_number : read (codes "-2") ≡ formula (minus (units 2)) []
-  pub minus_brackets : read (codes "-(x - 1)") ≡ formula (minus (less (input 0) (units 1))) (x_here ∷ [])
-  pub minus_factor : read (codes "-x * -y") ≡ formula (times (minus (input 0)) (minus (input 1))) (x_here ∷ y_here ∷ [])
-  pub two_minuses : read (codes "--x") ≡ formula (minus (minus (input 0))) (x_here ∷ [])
-  pub less_minus : read (codes "x--1") ≡ formula (less (input 0) (minus (units 1))) (x_here ∷ [])
-  pub neighbour : read (codes "x[1,-2]") ≡ formula (input 0) (read_at (names.Field 0) (pos 1) (neg_ℤ (pos 2)) ∷ [])
-  pub neighbour_spaced : read (codes "x [ - 1 , 2 ]") ≡ formula (input 0) (read_at (names.Field 0) (neg_ℤ (pos 1)) (pos 2) ∷ [])
-  pub neighbour_here : read (codes "x + x[-0,0]") ≡ formula (plus (input 0) (input 0)) (x_here ∷ [])
-  pub reads_in_order : read (codes "y + x + y") ≡ formula (plus (plus (input 0) (input 1)) (input 0)) (y_here ∷ x_here ∷ [])
-  pub minimum : read (codes "min(x, 1)") ≡ formula (least (input 0) (units 1)) (x_here ∷ [])
-  pub maximum : read (codes "max(1, y)") ≡ formula (greater (units 1) (input 0)) (y_here ∷ [])
-  pub magnitude : read (codes "abs(-x)") ≡ formula (absolute (minus (input 0))) (x_here ∷ [])
-  pub selection : read (codes "sel (x, 1, abs(y))") ≡ formula (select (input 0) (units 1) (absolute (input 1))) (x_here ∷ y_here ∷ [])
-  pub quantities : read (codes "i + daysec") ≡ formula (plus (input 0) (input 1)) (read_at names.I (pos 0) (pos 0) ∷ read_at names.DaySecond (pos 0) (pos 0) ∷ [])
-  pub alarm : read (codes "ring_a") ≡ formula (input 0) (read_at (names.Ring 0) (pos 0) (pos 0) ∷ [])
+  pub digit : outcome_of (codes "3") ≡ formula (units 3) []
+  pub long_number : outcome_of (codes "012.50") ≡ formula (number (pos 12500000)) []
+  pub field : outcome_of (codes "y") ≡ formula (input 0) (y_here ∷ [])
+  pub sum : outcome_of (codes "x + 1") ≡ formula (plus_tree (input 0) (units 1)) (x_here ∷ [])
+  pub difference : outcome_of (codes "x - 1") ≡ formula (less_tree (input 0) (units 1)) (x_here ∷ [])
+  pub product : outcome_of (codes "x * y") ≡ formula (times_tree (input 0) (input 1)) (x_here ∷ y_here ∷ [])
+  pub quotient : outcome_of (codes "x/2") ≡ formula (over_tree (input 0) (units 2)) (x_here ∷ [])
+  pub chain_of_sums : outcome_of (codes "x - 1 - 2") ≡ formula (less_tree (less_tree (input 0) (units 1)) (units 2)) (x_here ∷ [])
+  pub chain_of_products : outcome_of (codes "x / 2 / 3") ≡ formula (over_tree (over_tree (input 0) (units 2)) (units 3)) (x_here ∷ [])
+  pub product_before_sum : outcome_of (codes "1 + x * 2 - 3") ≡ formula (less_tree (plus_tree (units 1) (times_tree (input 0) (units 2))) (units 3)) (x_here ∷ [])
+  pub brackets : outcome_of (codes "(1 + x) * 2") ≡ formula (times_tree (plus_tree (units 1) (input 0)) (units 2)) (x_here ∷ [])
+  pub minus_number : outcome_of (codes "-2") ≡ formula (minus_tree (units 2)) []
+  pub minus_brackets : outcome_of (codes "-(x - 1)") ≡ formula (minus_tree (less_tree (input 0) (units 1))) (x_here ∷ [])
+  pub minus_factor : outcome_of (codes "-x * -y") ≡ formula (times_tree (minus_tree (input 0)) (minus_tree (input 1))) (x_here ∷ y_here ∷ [])
+  pub two_minuses : outcome_of (codes "--x") ≡ formula (minus_tree (minus_tree (input 0))) (x_here ∷ [])
+  pub less_minus : outcome_of (codes "x--1") ≡ formula (less_tree (input 0) (minus_tree (units 1))) (x_here ∷ [])
+  pub neighbour : outcome_of (codes "x[1,-2]") ≡ formula (input 0) (read_at (names.Field 0) (pos 1) (neg_ℤ (pos 2)) ∷ [])
+  pub neighbour_spaced : outcome_of (codes "x [ - 1 , 2 ]") ≡ formula (input 0) (read_at (names.Field 0) (neg_ℤ (pos 1)) (pos 2) ∷ [])
+  pub neighbour_here : outcome_of (codes "x + x[-0,0]") ≡ formula (plus_tree (input 0) (input 0)) (x_here ∷ [])
+  pub reads_in_order : outcome_of (codes "y + x + y") ≡ formula (plus_tree (plus_tree (input 0) (input 1)) (input 0)) (y_here ∷ x_here ∷ [])
+  pub minimum : outcome_of (codes "min(x, 1)") ≡ formula (min_tree (input 0) (units 1)) (x_here ∷ [])
+  pub maximum : outcome_of (codes "max(1, y)") ≡ formula (max_tree (units 1) (input 0)) (y_here ∷ [])
+  pub magnitude : outcome_of (codes "abs(-x)") ≡ formula (abs_tree (minus_tree (input 0))) (x_here ∷ [])
+  pub selection : outcome_of (codes "sel (x, 1, abs(y))") ≡ formula (select_tree (input 0) (units 1) (abs_tree (input 1))) (x_here ∷ y_here ∷ [])
+  pub quantities : outcome_of (codes "i + daysec") ≡ formula (plus_tree (input 0) (input 1)) (read_at names.I (pos 0) (pos 0) ∷ read_at names.DaySecond (pos 0) (pos 0) ∷ [])
+  pub alarm : outcome_of (codes "ring_a") ≡ formula (input 0) (read_at (names.Ring 0) (pos 0) (pos 0) ∷ [])
 
 -- texts that aren't, with their first faults
 pub record FaultyTexts : Type 0 where
-  pub empty : read (codes "") ≡ Err (Syntax 0)
-  pub first : read (codes " * x") ≡ Err (Syntax 1)
-  pub middle : read (codes "x + * 2") ≡ Err (Syntax 4)
-  pub last : read (codes "x + 1 )") ≡ Err (Syntax 6)
-  pub early : read (codes "x + ") ≡ Err (Syntax 4)
-  pub left_open : read (codes "(x") ≡ Err (Syntax 2)
-  pub two_operands : read (codes "x y") ≡ Err (Syntax 2)
-  pub plus_in_front : read (codes "+x") ≡ Err (Syntax 0)
-  pub stray : read (codes "x & y") ≡ Err (Syntax 2)
-  pub point_last : read (codes "1.") ≡ Err (Syntax 1)
-  pub argument_too_many : read (codes "abs(x, 1)") ≡ Err (Syntax 5)
-  pub argument_too_few : read (codes "sel(x, 1)") ≡ Err (Syntax 8)
-  pub function_bracket : read (codes "min[0,0]") ≡ Err (Syntax 3)
-  pub function_alone : read (codes "x + abs") ≡ Err (Syntax 7)
-  pub seven_places : read (codes "x + 1.0000001") ≡ Err (BadNumber 4)
-  pub past_range : read (codes "1000000001") ≡ Err (BadNumber 0)
-  pub bad_number_elsewhere : read (codes "x 1.0000001") ≡ Err (Syntax 2)
-  pub unknown : read (codes "z") ≡ Err (NameUnknown 0)
-  pub unknown_behind : read (codes "x + z") ≡ Err (NameUnknown 4)
-  pub unknown_alarm : read (codes "ring_b") ≡ Err (NameUnknown 0)
-  pub quantity_bracket : read (codes "i[0,0]") ≡ Err (NameUnknown 0)
-  pub unknown_bracket : read (codes "z [0,0]") ≡ Err (NameUnknown 0)
-  pub unknown_elsewhere : read (codes "x z") ≡ Err (Syntax 2)
-  pub far : read (codes "x[3,0]") ≡ Err (FarNeighbour 2)
-  pub far_behind_minus : read (codes "x[0,-3]") ≡ Err (FarNeighbour 4)
-  pub long_offset : read (codes "x[12,0]") ≡ Err (Syntax 2)
-  pub two_minuses_offset : read (codes "x[--1,0]") ≡ Err (Syntax 3)
+  pub empty : outcome_of (codes "") ≡ Err (Syntax 0)
+  pub first : outcome_of (codes " * x") ≡ Err (Syntax 1)
+  pub middle : outcome_of (codes "x + * 2") ≡ Err (Syntax 4)
+  pub last : outcome_of (codes "x + 1 )") ≡ Err (Syntax 6)
+  pub early : outcome_of (codes "x + ") ≡ Err (Syntax 4)
+  pub left_open : outcome_of (codes "(x") ≡ Err (Syntax 2)
+  pub two_operands : outcome_of (codes "x y") ≡ Err (Syntax 2)
+  pub plus_in_front : outcome_of (codes "+x") ≡ Err (Syntax 0)
+  pub stray : outcome_of (codes "x & y") ≡ Err (Syntax 2)
+  pub point_last : outcome_of (codes "1.") ≡ Err (Syntax 1)
+  pub argument_too_many : outcome_of (codes "abs(x, 1)") ≡ Err (Syntax 5)
+  pub argument_too_few : outcome_of (codes "sel(x, 1)") ≡ Err (Syntax 8)
+  pub function_bracket : outcome_of (codes "min[0,0]") ≡ Err (Syntax 3)
+  pub function_alone : outcome_of (codes "x + abs") ≡ Err (Syntax 7)
+  pub seven_places : outcome_of (codes "x + 1.0000001") ≡ Err (BadNumber 4)
+  pub past_range : outcome_of (codes "1000000001") ≡ Err (BadNumber 0)
+  pub bad_number_elsewhere : outcome_of (codes "x 1.0000001") ≡ Err (Syntax 2)
+  pub unknown : outcome_of (codes "z") ≡ Err (NameUnknown 0)
+  pub unknown_behind : outcome_of (codes "x + z") ≡ Err (NameUnknown 4)
+  pub unknown_alarm : outcome_of (codes "ring_b") ≡ Err (NameUnknown 0)
+  pub quantity_bracket : outcome_of (codes "i[0,0]") ≡ Err (NameUnknown 0)
+  pub unknown_bracket : outcome_of (codes "z [0,0]") ≡ Err (NameUnknown 0)
+  pub unknown_elsewhere : outcome_of (codes "x z") ≡ Err (Syntax 2)
+  pub far : outcome_of (codes "x[3,0]") ≡ Err (FarNeighbour 2)
+  pub far_behind_minus : outcome_of (codes "x[0,-3]") ≡ Err (FarNeighbour 4)
+  pub long_offset : outcome_of (codes "x[12,0]") ≡ Err (Syntax 2)
+  pub two_minuses_offset : outcome_of (codes "x[--1,0]") ≡ Err (Syntax 3)
 
 -- texts at the ends of what is allowed, and past them
 pub record DeepTexts : Type 0 where
-  pub brackets_33 : read (codes "* " ++ times_over 33 (codes "(")) ≡ Err DeepFormula
-  pub brackets_32 : read (codes "* " ++ times_over 32 (codes "(")) ≡ Err (Syntax 0)
-  pub minuses_33 : read (codes "z" ++ times_over 33 (codes "- ")) ≡ Err DeepFormula
-  pub minuses_32 : read (codes "z" ++ times_over 32 (codes "- ")) ≡ Err (NameUnknown 0)
-  pub chain_32 : is_ok (read (codes "x" ++ times_over 31 (codes "+x"))) ≡ true
-  pub chain_33 : read (codes "x" ++ times_over 32 (codes "+x")) ≡ Err DeepFormula
-  pub minuses_31 : is_ok (read (times_over 31 (codes "-") ++ codes "x")) ≡ true
-  pub brackets_31 : is_ok (read (times_over 31 (codes "(") ++ codes "1" ++ times_over 31 (codes ")"))) ≡ true
-  pub deep_minuses : read (times_over 32 (codes "-") ++ codes "x") ≡ Err DeepFormula
-  pub deep_brackets : read (times_over 32 (codes "(") ++ codes "1" ++ times_over 32 (codes ")")) ≡ Err DeepFormula
-  pub fault_before_deep : read (codes "x" ++ times_over 32 (codes "+x") ++ codes "+") ≡ Err (Syntax 66)
+  pub brackets_33 : outcome_of (codes "* " ++ copies_of 33 (codes "(")) ≡ Err DeepFormula
+  pub brackets_32 : outcome_of (codes "* " ++ copies_of 32 (codes "(")) ≡ Err (Syntax 0)
+  pub minuses_33 : outcome_of (codes "z" ++ copies_of 33 (codes "- ")) ≡ Err DeepFormula
+  pub minuses_32 : outcome_of (codes "z" ++ copies_of 32 (codes "- ")) ≡ Err (NameUnknown 0)
+  pub chain_32 : is_ok (outcome_of (codes "x" ++ copies_of 31 (codes "+x"))) ≡ true
+  pub chain_33 : outcome_of (codes "x" ++ copies_of 32 (codes "+x")) ≡ Err DeepFormula
+  pub minuses_31 : is_ok (outcome_of (copies_of 31 (codes "-") ++ codes "x")) ≡ true
+  pub brackets_31 : is_ok (outcome_of (copies_of 31 (codes "(") ++ codes "1" ++ copies_of 31 (codes ")"))) ≡ true
+  pub deep_minuses : outcome_of (copies_of 32 (codes "-") ++ codes "x") ≡ Err DeepFormula
+  pub deep_brackets : outcome_of (copies_of 32 (codes "(") ++ codes "1" ++ copies_of 32 (codes ")")) ≡ Err DeepFormula
+  pub fault_before_deep : outcome_of (codes "x" ++ copies_of 32 (codes "+x") ++ codes "+") ≡ Err (Syntax 66)
 
 -- trees with their values
 pub record FormulaValues : Type 0 where
   pub an_input : value_of (pos 5 ∷ pos 7 ∷ []) (input 1) ≡ pos 7
-  pub sum_clipped : value_of (pos greatest ∷ []) (plus (input 0) (number (pos 1))) ≡ pos greatest
-  pub difference_clipped : value_of (neg_ℤ (pos greatest) ∷ []) (less (input 0) (number (pos 1))) ≡ neg_ℤ (pos greatest)
-  pub product_rounded : value_of (pos 1 ∷ []) (times (input 0) (number (pos 500000))) ≡ pos 1
-  pub product_rounded_up : value_of (neg_ℤ (pos 1) ∷ []) (times (input 0) (number (pos 500000))) ≡ pos 0
-  pub product_clipped : value_of (pos greatest ∷ []) (times (input 0) (input 0)) ≡ pos greatest
-  pub quotient_rounded : value_of [] (over (units 2) (units 3)) ≡ pos 666667
-  pub quotient_by_zero : value_of (pos 5 ∷ []) (over (input 0) (units 0)) ≡ pos 0
-  pub of_minus : value_of (pos 5 ∷ []) (minus (input 0)) ≡ neg_ℤ (pos 5)
-  pub of_abs : value_of (neg_ℤ (pos 5) ∷ []) (absolute (input 0)) ≡ pos 5
-  pub of_min : value_of [] (least (minus (units 1)) (units 2)) ≡ neg_ℤ (pos million)
-  pub of_max : value_of [] (greater (minus (units 1)) (units 2)) ≡ pos (2 * million)
-  pub selected_above : value_of (pos 1 ∷ []) (select (input 0) (units 2) (units 3)) ≡ pos (2 * million)
-  pub selected_at_zero : value_of (pos 0 ∷ []) (select (input 0) (units 2) (units 3)) ≡ pos (3 * million)
-  pub selected_below : value_of (neg_ℤ (pos 1) ∷ []) (select (input 0) (units 2) (units 3)) ≡ pos (3 * million)
+  pub sum_clipped : value_of (pos greatest ∷ []) (plus_tree (input 0) (number (pos 1))) ≡ pos greatest
+  pub difference_clipped : value_of (neg_ℤ (pos greatest) ∷ []) (less_tree (input 0) (number (pos 1))) ≡ neg_ℤ (pos greatest)
+  pub product_rounded : value_of (pos 1 ∷ []) (times_tree (input 0) (number (pos 500000))) ≡ pos 1
+  pub product_rounded_up : value_of (neg_ℤ (pos 1) ∷ []) (times_tree (input 0) (number (pos 500000))) ≡ pos 0
+  pub product_clipped : value_of (pos greatest ∷ []) (times_tree (input 0) (input 0)) ≡ pos greatest
+  pub quotient_rounded : value_of [] (over_tree (units 2) (units 3)) ≡ pos 666667
+  pub quotient_by_zero : value_of (pos 5 ∷ []) (over_tree (input 0) (units 0)) ≡ pos 0
+  pub of_minus : value_of (pos 5 ∷ []) (minus_tree (input 0)) ≡ neg_ℤ (pos 5)
+  pub of_abs : value_of (neg_ℤ (pos 5) ∷ []) (abs_tree (input 0)) ≡ pos 5
+  pub of_min : value_of [] (min_tree (minus_tree (units 1)) (units 2)) ≡ neg_ℤ (pos million)
+  pub of_max : value_of [] (max_tree (minus_tree (units 1)) (units 2)) ≡ pos (2 * million)
+  pub selected_above : value_of (pos 1 ∷ []) (select_tree (input 0) (units 2) (units 3)) ≡ pos (2 * million)
+  pub selected_at_zero : value_of (pos 0 ∷ []) (select_tree (input 0) (units 2) (units 3)) ≡ pos (3 * million)
+  pub selected_below : value_of (neg_ℤ (pos 1) ∷ []) (select_tree (input 0) (units 2) (units 3)) ≡ pos (3 * million)
 
 -- ---- derivations
 
@@ -195,40 +195,46 @@ abbrev pub tokens : List ℕ → List Placed
 tokens = tokens_of (codes "x" ∷ codes "y" ∷ []) (codes "a" ∷ [])
 
 -- a token at a place
-abbrev pub placed : ℕ → Token → Placed
-placed at token = record { at = at; token = token }
+abbrev pub placed_token : ℕ → Token → Placed
+placed_token at token = record { at = at; token = token }
 
 -- an atom as a term, and as an expr
-abbrev pub of_atom : Atom → Term
-of_atom a = factor (atom a)
+abbrev pub term_of_atom : Atom → Term
+term_of_atom a = factor (atom a)
 
-abbrev pub alone : Atom → Expr
-alone a = term (of_atom a)
+abbrev pub expr_of_atom : Atom → Expr
+expr_of_atom a = term (term_of_atom a)
 
 -- x - 1 - 2
-abbrev pub chain : Expr
-chain = sum (sum (alone (field 0)) Less (of_atom (digit 1))) Less (of_atom (digit 2))
+abbrev pub chain_expr : Expr
+chain_expr = sum (sum (expr_of_atom (field 0)) Less (term_of_atom (digit 1))) Less (term_of_atom (digit 2))
 
 -- -(x[1,-2] + x * y)
-abbrev pub grouped : Expr
-grouped = term (factor (minus_of (atom (group (sum (alone (neighbour 0 (ahead one) (back two))) Plus (product (of_atom (field 0)) Times (atom (field 1))))))))
+abbrev pub group_expr : Expr
+group_expr = term (factor (minus_of (atom (group (sum (expr_of_atom (neighbour 0 (ahead one) (back two))) Plus (product (term_of_atom (field 0)) Times (atom (field 1))))))))
 
 -- min(x, abs(y))
-abbrev pub nested : Expr
-nested = alone (binary Min (alone (field 0)) (alone (unary Abs (alone (field 1)))))
+abbrev pub nested_expr : Expr
+nested_expr = expr_of_atom (binary Min (expr_of_atom (field 0)) (expr_of_atom (unary Abs (expr_of_atom (field 1)))))
 
 -- derivations with what they yield and what they stand for
 pub record DerivationExamples : Type 0 where
-  pub places : tokens (codes "x[-1, 2]") ≡ placed 0 (token.Field 0) ∷ placed 1 token.OpenBracket ∷ placed 2 (token.Sum Less) ∷ placed 3 (token.Digit 1) ∷ placed 4 token.Comma ∷ placed 6 (token.Digit 2) ∷ placed 7 token.CloseBracket ∷ []
-  pub longest : tokens (codes "x1 1.5x1.") ≡ placed 0 token.Unknown ∷ placed 3 (token.Number (pos 1500000)) ∷ placed 6 token.Unknown ∷ placed 8 token.Stray ∷ []
-  pub chain_spelled : kinds (tokens (codes "x - 1 - 2")) ≡ yield_of_expr chain
-  pub chain_parsed : formula_of chain ≡ record { tree = less (less (input 0) (units 1)) (units 2); reads = x_here ∷ [] }
-  pub chain_depth : depth_of_expr chain ≡ 3
-  pub grouped_spelled : kinds (tokens (codes "-(x[1,-2] + x * y)")) ≡ yield_of_expr grouped
-  pub grouped_parsed : formula_of grouped ≡ record { tree = minus (plus (input 0) (times (input 1) (input 2))); reads = read_at (names.Field 0) (pos 1) (neg_ℤ (pos 2)) ∷ x_here ∷ y_here ∷ [] }
-  pub grouped_depth : depth_of_expr grouped ≡ 5
-  pub nested_spelled : kinds (tokens (codes "min(x, abs(y))")) ≡ yield_of_expr nested
-  pub nested_depth : depth_of_expr nested ≡ 3
+  pub places : tokens (codes "x[-1, 2]")
+      ≡ placed_token 0 (token.Field 0) ∷ placed_token 1 token.OpenBracket ∷ placed_token 2 (token.Sum Less) ∷ placed_token 3 (token.Digit 1)
+      ∷ placed_token 4 token.Comma ∷ placed_token 6 (token.Digit 2) ∷ placed_token 7 token.CloseBracket ∷ []
+  pub longest : tokens (codes "x1 1.5x1.") ≡ placed_token 0 token.Unknown ∷ placed_token 3 (token.Number (pos 1500000)) ∷ placed_token 6 token.Unknown ∷ placed_token 8 token.Stray ∷ []
+  pub chain_spelled : kinds (tokens (codes "x - 1 - 2")) ≡ yield_of_expr chain_expr
+  pub chain_parsed : formula_of chain_expr ≡ record { tree = less_tree (less_tree (input 0) (units 1)) (units 2); reads = x_here ∷ [] }
+  pub chain_depth : depth_of_expr chain_expr ≡ 3
+  pub grouped_spelled : kinds (tokens (codes "-(x[1,-2] + x * y)")) ≡ yield_of_expr group_expr
+  pub grouped_parsed : formula_of group_expr
+      ≡ record {
+        tree = minus_tree (plus_tree (input 0) (times_tree (input 1) (input 2)));
+        reads = read_at (names.Field 0) (pos 1) (neg_ℤ (pos 2)) ∷ x_here ∷ y_here ∷ [];
+      }
+  pub grouped_depth : depth_of_expr group_expr ≡ 5
+  pub nested_spelled : kinds (tokens (codes "min(x, abs(y))")) ≡ yield_of_expr nested_expr
+  pub nested_depth : depth_of_expr nested_expr ≡ 3
 
 -- ---- arguments of native rules
 

@@ -3,7 +3,7 @@ use Rattle.std.specs.Prelude.{◌≡◌, ℕ, pos, List, Result, Ok, Err}
 use Rattle.cpl_formula.specs.Functions.{tree_of_binary, tree_of_unary}
 use Rattle.cpl_formula.specs.Grammar.{tree_of_product, tree_of_sum}
 use Rattle.cpl_formula.specs.Reads.{read_at}
-use Rattle.cpl_formula.specs.Steps.{At, behind_read}
+use Rattle.cpl_formula.specs.Steps.{At, state_after_read}
 use Rattle.cpl_formula.specs.declared.formula.Formula.{Formula, roll-Formula}
 use Rattle.cpl_formula.specs.declared.formula.Formula.TheOpen as tree
 use Rattle.cpl_formula.specs.declared.fault.FormulaFault.{FormulaFault}
@@ -56,10 +56,10 @@ TextGives (Err faults.Memory) given = Unit {0}
 TextGives (Err e) given = given ≡ Err e
 
 -- a field at the cell itself
-abbrev pub here : ℕ → Read
-here k = read_at (names.Field k) (pos 0) (pos 0)
+abbrev pub read_here : ℕ → Read
+read_here k = read_at (names.Field k) (pos 0) (pos 0)
 
 -- behind the offsets of this read
-abbrev pub ending_read : List Read → List Frame → Level → Read → Token → Result At Stop
-ending_read reads frames level r token.CloseBracket = Ok (behind_read reads frames level r)
-ending_read reads frames level r t = Err stop.Syntax
+abbrev pub step_behind_offsets : List Read → List Frame → Level → Read → Token → Result At Stop
+step_behind_offsets reads frames level r token.CloseBracket = Ok (state_after_read reads frames level r)
+step_behind_offsets reads frames level r t = Err stop.Syntax

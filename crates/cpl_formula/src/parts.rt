@@ -2,7 +2,7 @@
 
 ghost use Rattle.std.specs.Prelude.{◌≡◌, IfOk};
 ghost use Rattle.cpl_formula.specs.Functions.{tree_of_ternary};
-ghost use Rattle.cpl_formula.specs.Steps.{around, joined, joined_three, leaf, negated, one_more};
+ghost use Rattle.cpl_formula.specs.Steps.{part_around, joined_part, joined_part_of_three, leaf, part_with_minuses, next_minus_count};
 ghost use Rattle.cpl_formula.specs.Levels.{tree_around, tree_joined};
 
 use crate::formula::Formula;
@@ -41,7 +41,7 @@ pub fn leaf(alloc: Global, tree: Formula) -> Result<Part, AllocError>
 
 /// A level around a part.
 pub fn around(alloc: Global, level: Wrap, part: Part) -> Result<Part, AllocError>
-    ensures { IfOk result (λ made. made ≡ around (tree_around level) part) }
+    ensures { IfOk result (λ made. made ≡ part_around (tree_around level) part) }
 {
     match part {
         Part::Kept { tree, depth } if depth < MOST => {
@@ -74,7 +74,7 @@ fn tree_joined(join: Join, a: Boxed<Formula>, b: Boxed<Formula>) -> Formula
 
 /// A level around two parts.
 pub fn joined(alloc: Global, join: Join, a: Part, b: Part) -> Result<Part, AllocError>
-    ensures { IfOk result (λ made. made ≡ joined (tree_joined join) a b) }
+    ensures { IfOk result (λ made. made ≡ joined_part (tree_joined join) a b) }
 {
     let (Part::Kept { tree: a, depth: m }, Part::Kept { tree: b, depth: n }) = (a, b) else {
         return Ok(Part::Deep);
@@ -98,7 +98,7 @@ pub fn joined_three(
     b: Part,
     c: Part,
 ) -> Result<Part, AllocError>
-    ensures { IfOk result (λ made. made ≡ joined_three (tree_of_ternary function) a b c) }
+    ensures { IfOk result (λ made. made ≡ joined_part_of_three (tree_of_ternary function) a b c) }
 {
     let (
         Part::Kept { tree: a, depth: l },
@@ -120,7 +120,7 @@ pub fn joined_three(
 
 /// So many minus signs in front of a part.
 pub fn negated(alloc: Global, minus: u8, operand: Part) -> Result<Part, AllocError>
-    ensures { IfOk result (λ made. made ≡ negated minus operand) }
+    ensures { IfOk result (λ made. made ≡ part_with_minuses minus operand) }
 {
     let mut part = operand;
     for _ in 0..minus {
@@ -131,7 +131,7 @@ pub fn negated(alloc: Global, minus: u8, operand: Part) -> Result<Part, AllocErr
 
 /// One more minus sign; more than 33 count as 33, since that is too deep already.
 pub fn one_more(minus: u8) -> u8
-    ensures { result ≡ one_more minus }
+    ensures { result ≡ next_minus_count minus }
 {
     if minus > MOST { minus } else { minus + 1 }
 }

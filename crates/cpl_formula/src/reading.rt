@@ -4,7 +4,7 @@ ghost use Rattle.std.specs.Prelude.{◌≡◌, ◌<◌, ◌^◌, [], length, opt
 ghost use Rattle.cpl_formula.specs.Formulas.{IsAnswer};
 ghost use Rattle.cpl_formula.specs.Levels.{TextGives, WalkGives};
 ghost use Rattle.cpl_formula.specs.Reads.{AreReads};
-ghost use Rattle.cpl_formula.specs.Steps.{finished, last_operand, fault_at, parsed_of, start, walk};
+ghost use Rattle.cpl_formula.specs.Steps.{outcome_at_end, last_operand, fault_at, parsed_of, start_state, walk};
 ghost use Rattle.cpl_formula.specs.Tokens.{tokens_of};
 ghost use Rattle.cpl_formula.specs.Tree.{is_over};
 
@@ -43,7 +43,7 @@ fn walk(
     requires text { length text.now < 2 ^ 32 }
     requires fields { length fields.now < 2 ^ 16 }
     requires alarms { length alarms.now < 2 ^ 16 }
-    ensures gives { WalkGives result reads.new.keys (walk 0 ([], start) (tokens_of fields.now alarms.now text.now)) }
+    ensures gives { WalkGives result reads.new.keys (walk 0 ([], start_state) (tokens_of fields.now alarms.now text.now)) }
     ensures few { IfOk result (λ state. length reads.new.keys < 2 ^ 32) }
 {
     let mut state = State::start(alloc);
@@ -92,7 +92,7 @@ fn finished(
     end: u32,
 ) -> Result<Parsed, FormulaFault>
     requires { length reads.old.keys < 2 ^ 32 }
-    ensures { TextGives result (finished end state.frames state.level (last_operand reads.old.keys state.mode)) }
+    ensures { TextGives result (outcome_at_end end state.frames state.level (last_operand reads.old.keys state.mode)) }
 {
     let State {
         frames,
@@ -115,14 +115,16 @@ fn finished(
     }
 }
 
-/// What reading makes of a text.
+/// What reading makes of a text, with its reads noted.
 #[tactic(auto, unfolding(crate::specs::Steps::parsed_of))]
 fn read(
     alloc: Global,
+    reads: &mut IndexSet<Read>,
     text: &[u8],
     fields: &[Text],
     alarms: &[Text],
 ) -> Result<Parsed, FormulaFault>
+    requires fresh { reads.old.keys ≡ [] }
     requires text { length text.now < 2 ^ 32 }
     requires fields { length fields.now < 2 ^ 16 }
     requires alarms { length alarms.now < 2 ^ 16 }
@@ -131,9 +133,8 @@ fn read(
     if is_tangled(text) {
         return Err(FormulaFault::DeepFormula);
     }
-    let mut reads = IndexSet::new(alloc);
-    let state = walk(alloc, &mut reads, text, fields, alarms)?;
-    finished(alloc, &mut reads, state, text.len() as u32)
+    let state = walk(alloc, reads, text, fields, alarms)?;
+    finished(alloc, reads, state, text.len() as u32)
 }
 
 /// Reads the text of a rule as a formula over fields and alarms of these names. Over given names it takes
@@ -170,5 +171,6 @@ pub fn parse(
     // These are among the names given, each once.
     ensures reads { IfOk result (λ p. AreReads (length fields.now) (length alarms.now) p.reads) }
 {
-    read(alloc, text, fields, alarms)
+    let mut reads = IndexSet::new(alloc);
+    read(alloc, &mut reads, text, fields, alarms)
 }

@@ -1,10 +1,10 @@
 //! One step of reading: from a state and a token to the next state, or why no formula goes on so.
 
 ghost use Rattle.std.specs.Prelude.{◌≡◌, ◌+◌, ◌<◌, ◌≤◌, ◌^◌, IfOk, List, length};
-ghost use Rattle.cpl_formula.specs.Levels.{StepGives, ending_read, here};
+ghost use Rattle.cpl_formula.specs.Levels.{StepGives, step_behind_offsets, read_here};
 ghost use Rattle.cpl_formula.specs.Reads.{with_read};
 ghost use Rattle.cpl_formula.specs.Grammar.{input_of};
-ghost use Rattle.cpl_formula.specs.Steps.{behind, between, called, close, closed_part, column, comma, expr_at, fresh, leaf, named, near, negated, next_opening, opened, opening_of, row, split_last, start, state, step, wanted, with_product, with_sum};
+ghost use Rattle.cpl_formula.specs.Steps.{step_after_operand, step_between_offsets, step_at_call, step_at_close, closed_part, step_in_column, step_at_comma, expr_at, fresh_level, leaf, step_after_name, near_offset, part_with_minuses, next_opening, state_in_bracket, opening_of, step_in_row, split_last, start_state, state, step, step_at_operand, with_product, with_sum};
 ghost use Rattle.cpl_formula.specs.declared.formula.Read.{Read};
 
 use crate::fault::Stop;
@@ -21,7 +21,7 @@ use std::alloc::{AllocError, AllocFailed, Global};
 impl Level {
     /// Nothing waits.
     fn fresh() -> Level
-        ensures { result ≡ fresh }
+        ensures { result ≡ fresh_level }
     {
         Level {
             sum: None,
@@ -34,7 +34,7 @@ impl Level {
 impl State {
     /// Before the first token. Takes no memory.
     pub fn start(alloc: Global) -> State
-        ensures { result ≡ start }
+        ensures { result ≡ start_state }
     {
         State {
             frames: Many::of(Vec::new(alloc)),
@@ -82,7 +82,7 @@ fn term_at(
     minus: u8,
     operand: Part,
 ) -> Result<Part, AllocError>
-    ensures { IfOk result (λ part. part ≡ with_product product (negated minus operand)) }
+    ensures { IfOk result (λ part. part ≡ with_product product (part_with_minuses minus operand)) }
 {
     let factor = negated(alloc, minus, operand)?;
     with_product(alloc, product, factor)
@@ -140,7 +140,7 @@ fn next_opening(opening: Opening, argument: Part) -> Option<Opening>
 
 /// Behind a `(`.
 fn opened(frames: Many<Frame>, level: Level, opening: Opening) -> Result<State, AllocFailed<Frame>>
-    ensures { IfOk result (λ state. state ≡ opened frames level opening) }
+    ensures { IfOk result (λ state. state ≡ state_in_bracket frames level opening) }
 {
     let mut frames = frames.into_items();
     frames.push(Frame { level, opening })?;
@@ -168,7 +168,7 @@ fn wanted(
     token: Token,
 ) -> Result<State, Stop>
     requires { length reads.old.keys < 2 ^ 32 }
-    ensures gives { StepGives result reads.new.keys (wanted reads.old.keys frames level token) }
+    ensures gives { StepGives result reads.new.keys (step_at_operand reads.old.keys frames level token) }
     ensures few { IfOk result (λ next. length reads.new.keys ≤ length reads.old.keys + 1) }
 {
     let mode = match token {
@@ -197,7 +197,7 @@ fn wanted(
 
 /// An offset, where it is near enough.
 fn near(minus: bool, digit: u8) -> Result<i8, Stop>
-    ensures { result ≡ near minus digit }
+    ensures { result ≡ near_offset minus digit }
 {
     if digit > FARTHEST {
         return Err(Stop::FarNeighbour { minus });
@@ -214,7 +214,7 @@ fn column(
     minus: bool,
     token: Token,
 ) -> Result<State, Stop>
-    ensures { (reads : List Read) → StepGives result reads (column reads frames level field minus token) }
+    ensures { (reads : List Read) → StepGives result reads (step_in_column reads frames level field minus token) }
 {
     let mode = match token {
         Token::Digit(digit) => Mode::Between {
@@ -235,7 +235,7 @@ fn between(
     dx: i8,
     token: Token,
 ) -> Result<State, Stop>
-    ensures { (reads : List Read) → StepGives result reads (between reads frames level field dx token) }
+    ensures { (reads : List Read) → StepGives result reads (step_between_offsets reads frames level field dx token) }
 {
     match token {
         Token::Comma => {
@@ -259,7 +259,7 @@ fn row(
     minus: bool,
     token: Token,
 ) -> Result<State, Stop>
-    ensures { (reads : List Read) → StepGives result reads (row reads frames level field dx minus token) }
+    ensures { (reads : List Read) → StepGives result reads (step_in_row reads frames level field dx minus token) }
 {
     let mode = match token {
         Token::Digit(digit) => Mode::Ending {
@@ -287,7 +287,7 @@ fn ending(
     token: Token,
 ) -> Result<State, Stop>
     requires { length reads.old.keys < 2 ^ 32 }
-    ensures gives { StepGives result reads.new.keys (ending_read reads.old.keys frames level read token) }
+    ensures gives { StepGives result reads.new.keys (step_behind_offsets reads.old.keys frames level read token) }
     ensures few { IfOk result (λ next. length reads.new.keys ≤ length reads.old.keys + 1) }
 {
     match token {
@@ -310,7 +310,7 @@ fn innermost(frames: Many<Frame>) -> Option<(Many<Frame>, Frame)>
 
 /// A `)` behind an expression.
 fn close(alloc: Global, frames: Many<Frame>, argument: Part) -> Result<State, Stop>
-    ensures { (reads : List Read) → StepGives result reads (close reads argument (split_last frames)) }
+    ensures { (reads : List Read) → StepGives result reads (step_at_close reads argument (split_last frames)) }
 {
     let (frames, frame) = innermost(frames).ok_or(Stop::Syntax)?;
     let Frame { level, opening } = frame;
@@ -322,7 +322,7 @@ fn close(alloc: Global, frames: Many<Frame>, argument: Part) -> Result<State, St
 
 /// A `,` behind an expression.
 fn comma(frames: Many<Frame>, argument: Part) -> Result<State, Stop>
-    ensures { (reads : List Read) → StepGives result reads (comma reads argument (split_last frames)) }
+    ensures { (reads : List Read) → StepGives result reads (step_at_comma reads argument (split_last frames)) }
 {
     let (frames, frame) = innermost(frames).ok_or(Stop::Syntax)?;
     let Frame { level, opening } = frame;
@@ -340,7 +340,7 @@ fn behind(
     operand: Part,
     token: Token,
 ) -> Result<State, Stop>
-    ensures { (reads : List Read) → StepGives result reads (behind reads frames level operand token) }
+    ensures { (reads : List Read) → StepGives result reads (step_after_operand reads frames level operand token) }
 {
     match token {
         Token::Sum(sign) => {
@@ -369,7 +369,7 @@ fn behind(
 
 /// A field at the cell itself.
 pub fn here(field: u16) -> Read
-    ensures { result ≡ here field }
+    ensures { result ≡ read_here field }
 {
     Read {
         name: ReadName::Field(field),
@@ -388,7 +388,7 @@ fn named(
     token: Token,
 ) -> Result<State, Stop>
     requires { length reads.old.keys < 2 ^ 32 }
-    ensures gives { StepGives result reads.new.keys (named reads.old.keys frames level field token) }
+    ensures gives { StepGives result reads.new.keys (step_after_name reads.old.keys frames level field token) }
     ensures few { IfOk result (λ next. length reads.new.keys ≤ length reads.old.keys + 1) }
 {
     if let Token::OpenBracket = token {
@@ -409,7 +409,7 @@ fn called(
     function: Function,
     token: Token,
 ) -> Result<State, Stop>
-    ensures { (reads : List Read) → StepGives result reads (called reads frames level function token) }
+    ensures { (reads : List Read) → StepGives result reads (step_at_call reads frames level function token) }
 {
     match token {
         Token::Open => Ok(opened(frames, level, opening_of(function))?),

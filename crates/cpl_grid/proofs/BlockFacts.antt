@@ -4,14 +4,14 @@ use Rattle.std.proofs.lemmas.Bool.{cases_lt, lt-ltb, le-ltb}
 use Rattle.std.proofs.Math.Nat.{mul_comm}
 use Rattle.std.proofs.lemmas.Nat.{div-add-mod', mod_below, div_below}
 use Rattle.std.specs.List.{range_with_len}
-use Rattle.cpl_grid.specs.Blocks.{block_at, block_length, block_start, holder, lengths, up_to}
+use Rattle.cpl_grid.specs.Blocks.{block_at, block_length, block_start, holder, lengths, numbers_below}
 use Rattle.cpl_grid.proofs.RangeFacts.{sum_by-range_suc}
 
 -- a block starts where the one before it ends
 pub block_start-suc : (n m b : ℕ) → block_start n m (suc b) ≡ block_start n m b + block_length n m b
 unfolding block_start
 block_start-suc n m b =
-    sum_by-range_suc (block_length n m) 0 b ∙ ap (λ k. sum_by (block_length n m) (up_to b) + block_length n m k) (zero-add b)
+    sum_by-range_suc (block_length n m) 0 b ∙ ap (λ k. sum_by (block_length n m) (numbers_below b) + block_length n m k) (zero-add b)
 
 -- one block more, in numbers
 start_more : (q r b : ℕ) → b * q + min b r + cond (ltb b r) (q + 1) q ≡ suc b * q + min (suc b) r

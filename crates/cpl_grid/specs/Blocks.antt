@@ -4,8 +4,8 @@ use Rattle.std.specs.List.{range_with_len}
 use Rattle.cpl_grid.specs.declared.blocks.Block.{Block}
 
 -- the numbers below n
-abbrev pub up_to : ℕ → List ℕ
-up_to n = range_with_len 0 n
+abbrev pub numbers_below : ℕ → List ℕ
+numbers_below n = range_with_len 0 n
 
 -- how many of n places are in block b of m
 abbrev pub block_length : ℕ → ℕ → ℕ → ℕ
@@ -13,11 +13,11 @@ block_length n m b = if nat_lt b (n % m) then n / m + 1 else n / m
 
 -- how many are in each of the m blocks
 abbrev pub lengths : ℕ → ℕ → List ℕ
-lengths n m = map (block_length n m) (up_to m)
+lengths n m = map (block_length n m) (numbers_below m)
 
 -- how many of n places stand before block b of m
 unfoldable pub block_start : ℕ → ℕ → ℕ → ℕ
-block_start n m b = sum_by (block_length n m) (up_to b)
+block_start n m b = sum_by (block_length n m) (numbers_below b)
 
 -- block b of m blocks of n places
 abbrev pub block_at : ℕ → ℕ → ℕ → Block

@@ -1,6 +1,6 @@
 -- Which PET owns a cell of a decomposed grid, and which cells a PET owns.
 use Rattle.std.specs.Prelude.{◌≡◌, ◌↔◌, ℕ, ◌+◌, ◌-◌, ◌*◌, ◌/◌, ◌%◌, ◌≤◌, ◌<◌, ◌==◌, List, length, filter, sum_by, Some, slice_get}
-use Rattle.cpl_grid.specs.Blocks.{block_at, holder, lengths, up_to}
+use Rattle.cpl_grid.specs.Blocks.{block_at, holder, lengths, numbers_below}
 use Rattle.cpl_grid.specs.Grid.{IsCell, IsGrid, cells_in, column_of, indices, row_of}
 use Rattle.cpl_grid.specs.Parts.{IsInPart, IsPart, ListsPart, cells_of_part}
 use Rattle.cpl_grid.specs.declared.blocks.Part.{Part}
@@ -60,7 +60,7 @@ pub record IsPartOf (layout : Layout) (pet : ℕ) (part : Part) : Type 0 where
 -- how many cells all PETs own together
 abbrev pub all_owned : Layout → ℕ
 all_owned layout =
-    sum_by (λ b. length (cells_of layout (layout.first_pet + b))) (up_to (pets_in layout))
+    sum_by (λ b. length (cells_of layout (layout.first_pet + b))) (numbers_below (pets_in layout))
 
 -- each cell is in the list of one PET, at one place, the lists together are as long as the grid, and what a PET owns is a part
 pub record IsDivision (layout : Layout) : Type 0 where

@@ -1,7 +1,7 @@
 -- Parts of a grid: a block of columns and a block of rows, and the cells where they meet.
 use Rattle.std.specs.Prelude.{◌≡◌, ℕ, ◌+◌, ◌-◌, ◌*◌, ◌<◌, ◌≤◌, List, length, Some, slice_get}
 use Rattle.std.specs.List.{flat_map, range_with_len}
-use Rattle.cpl_grid.specs.Blocks.{Holds, up_to}
+use Rattle.cpl_grid.specs.Blocks.{Holds, numbers_below}
 use Rattle.cpl_grid.specs.Grid.{column_of, index_of, row_of}
 use Rattle.cpl_grid.specs.declared.blocks.Part.{Part}
 use Rattle.cpl_grid.specs.declared.grid.Grid.{Grid}
@@ -21,7 +21,7 @@ part_row grid part j = range_with_len (part_cell grid part 0 j) part.columns.len
 
 -- the cells of a part: its rows, end to end
 unfoldable pub cells_of_part : Grid → Part → List ℕ
-cells_of_part grid part = flat_map (part_row grid part) (up_to part.rows.length)
+cells_of_part grid part = flat_map (part_row grid part) (numbers_below part.rows.length)
 
 -- the part that has all cells
 abbrev pub whole_part : Grid → Part

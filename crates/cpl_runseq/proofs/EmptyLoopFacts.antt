@@ -18,7 +18,7 @@ use Rattle.cpl_runseq.specs.FilledReading.{after_close_filled, after_form_filled
 use Rattle.cpl_runseq.specs.Names.{component_of, phase_of, substep_of}
 use Rattle.cpl_runseq.specs.Reading.{Reading, after_close, after_form, after_link, after_opening, after_row, after_rows, after_run, divides, divides_given, empty_reading, fits_step, innermost_loop, link_in, loop_duration, loop_in, run_in, with_body}
 use Rattle.cpl_runseq.specs.EmptyLoops.{filled_body, filled_element, filled_loop, filled_sequence, filled_step, filled_top, result_map, some_members, without_empty_loops}
-use Rattle.cpl_runseq.specs.Whole.{closed_check, durations_check, has_rest, makes_up, rest_check, sequence_of, span_of, top_loops, total, whole_of}
+use Rattle.cpl_runseq.specs.Whole.{closed_check, durations_check, has_rest, makes_up, rest_check, sequence_of, span_of, top_loops, total_duration, whole_of}
 use Rattle.cpl_runseq.specs.RowWords.{row_words}
 use Rattle.cpl_runseq.proofs.ResultFacts.{bind_known, bind_map, bind_mapped, bind_same, first_ok}
 
@@ -162,7 +162,7 @@ durations_check-filled span (l ∷ more) =
     ∙ ap (λ b. if is_some l.given || (is_some span && not b) then durations_check span (map filled_read_loop more) else Err (DurationMissing l.line)) (sym (is_some_of-map filled_read_loop more))
 
 -- how long loops last together
-total-filled : (loops : List ReadLoop) → total loops ≡ total (map filled_read_loop loops)
+total-filled : (loops : List ReadLoop) → total_duration loops ≡ total_duration (map filled_read_loop loops)
 total-filled [] = refl
 total-filled (l ∷ more) =
     sum_by-cons (λ (m : ReadLoop). unwrap_or m.given 0) l more ∙ ap (λ n. unwrap_or l.given 0 + n) (total-filled more)
@@ -182,9 +182,9 @@ rest_check-filled rest (l ∷ more) = ap (λ r. if is_some l.given || divides l.
 span_of-filled : (span : Option ℕ) (room : ℕ) (loops : List ReadLoop) → span_of span room loops ≡ span_of span room (map filled_read_loop loops)
 span_of-filled None room loops = ap (λ t. if nat_lt 0 t && nat_lt t room then Ok t else Err (SpanTooLong t)) (total-filled loops)
 span_of-filled (Some span) room loops =
-    ap (λ b. ok_if (if b then nat_lt (total loops) span else total loops == span) (SpanMismatch (total loops) (pos span)) >>= (λ _. rest_check (span - total loops) loops >>= (λ _. Ok span))) (has_rest-filled loops)
+    ap (λ b. ok_if (if b then nat_lt (total_duration loops) span else total_duration loops == span) (SpanMismatch (total_duration loops) (pos span)) >>= (λ _. rest_check (span - total_duration loops) loops >>= (λ _. Ok span))) (has_rest-filled loops)
     ∙ ap (λ t. ok_if (if has_rest (map filled_read_loop loops) then nat_lt t span else t == span) (SpanMismatch t (pos span)) >>= (λ _. rest_check (span - t) loops >>= (λ _. Ok span))) (total-filled loops)
-    ∙ ap (λ r. ok_if (makes_up span (map filled_read_loop loops)) (SpanMismatch (total (map filled_read_loop loops)) (pos span)) >>= (λ _. r >>= (λ _. Ok span))) (rest_check-filled (span - total (map filled_read_loop loops)) loops)
+    ∙ ap (λ r. ok_if (makes_up span (map filled_read_loop loops)) (SpanMismatch (total_duration (map filled_read_loop loops)) (pos span)) >>= (λ _. r >>= (λ _. Ok span))) (rest_check-filled (span - total_duration (map filled_read_loop loops)) loops)
 
 -- the top loops
 top_loops-filled : (begin rest : ℕ) (loops : List ReadLoop) → map filled_top (top_loops begin rest loops) ≡ top_loops begin rest (map filled_read_loop loops)
@@ -200,7 +200,7 @@ whole_of-filled span room r =
     bind_same without_empty_loops _ _ _ _ (durations_check-filled span r.loops) (λ _.
     bind_same without_empty_loops _ _ _ _ (span_of-filled span room r.loops) (λ length.
     ap (λ (ls : List TopLoop). Ok (record { links = r.links; loops = ls; span = pos length }))
-    (ap (λ t. map filled_top (top_loops 0 (length - t) r.loops)) (total-filled r.loops) ∙ top_loops-filled 0 (length - total (map filled_read_loop r.loops)) r.loops))))
+    (ap (λ t. map filled_top (top_loops 0 (length - t) r.loops)) (total-filled r.loops) ∙ top_loops-filled 0 (length - total_duration (map filled_read_loop r.loops)) r.loops))))
 
 -- the sequence without its empty nested loops is the one that is read with them dropped as they end
 pub sequence_of-filled : (names : List SeqName) (span time_step : Option ℤ) (room : ℤ) (rows : List Row) → filled_sequence names span time_step room rows ≡ filled_sequence_of names (option_map unsigned_abs span) (option_map unsigned_abs time_step) (unsigned_abs room) rows

@@ -15,15 +15,15 @@ use Rattle.cpl_config.specs.declared.row.Row.{Row}
 use Rattle.cpl_sequence.specs.Bounds.{AreOfPairs, IsLinkOver, IsOpOver, IsOver}
 use Rattle.cpl_sequence.specs.Sequence.{Sequence}
 use Rattle.cpl_sequence.specs.Sound.{IsSound}
-use Rattle.cpl_sequence.specs.Unrolled.{run_ops, unroll, unroll_all, unroll_top, unrolled, up_to}
+use Rattle.cpl_sequence.specs.Operations.{run_ops, element_ops, body_ops, top_ops, operations_of, numbers_below}
 use Rattle.cpl_sequence.specs.declared.element.Element.{Element, roll-Element}
 use Rattle.cpl_sequence.specs.declared.element.Element.TheFolds.{fold-roll-Element}
 use Rattle.cpl_sequence.specs.declared.element.Element.TheOpen.{Link, Run, Loop}
 use Rattle.cpl_sequence.specs.declared.link_line.LinkLine.{LinkLine}
 use Rattle.cpl_sequence.specs.declared.seq_name.SeqName.{SeqName}
-use Rattle.cpl_sequence.proofs.BoundFacts.{unrolled-within}
+use Rattle.cpl_sequence.proofs.BoundFacts.{operations_of-within}
 use Rattle.cpl_sequence.proofs.ListFacts.{All-at, All-flat_map, All-iterations, slice_get-append_left, slice_get-append_right}
-use Rattle.cpl_sequence.proofs.TreeFacts.{Every, every_all, flat_map-map, induction, unroll-Link, unroll-Loop, unroll-Run}
+use Rattle.cpl_sequence.proofs.TreeFacts.{Every, every_all, flat_map-map, induction, element_ops-Link, element_ops-Loop, element_ops-Run}
 use Rattle.cpl_runseq.specs.Asked.{AreNames, IsStep}
 use Rattle.cpl_runseq.specs.FilledReading.{after_close_filled, after_form_filled, after_row_filled, after_rows_filled, join_if_any}
 use Rattle.cpl_runseq.specs.Links.{is_of, link_at}
@@ -33,7 +33,7 @@ use Rattle.cpl_runseq.specs.Reading.{Reading, after_link, after_opening, after_r
 use Rattle.cpl_runseq.specs.ReadingBounds.{IsBodyOver, IsLeafOver, IsReadingOver, Leaf, leaves, leaves_step}
 use Rattle.cpl_runseq.specs.RowForms.{RowForm, close, opening, bad_step, link, run, bad_element, row_form}
 use Rattle.cpl_runseq.specs.RowWords.{row_words}
-use Rattle.cpl_runseq.specs.Whole.{closed_check, durations_check, span_of, top_loops, total, whole_of}
+use Rattle.cpl_runseq.specs.Whole.{closed_check, durations_check, span_of, top_loops, total_duration, whole_of}
 use Rattle.cpl_runseq.specs.declared.fault.SeqFault.{SeqFault}
 use Rattle.cpl_runseq.specs.declared.fault.SeqFault.TheVariants.{BadStep, ComponentUnknown, LoopTooDeep, OptionsDiffer, PhaseUnknown, SelfLink, StepUnset, StepUneven, SubstepUneven}
 use Rattle.cpl_runseq.specs.declared.read_loop.ReadLoop.{ReadLoop}
@@ -69,7 +69,7 @@ run_ops-over names component phase None time step asked leaf =
     (record { name = leaf.name; named = leaf.named; phase_below = leaf.phase_below; substep_is = substep-is leaf.name.substep None step leaf.substep_is (All-at (λ name. IfSome name.substep IsStep) names component leaf.name asked.substeps leaf.named) })
     (All-nil (IsOpOver names))
 run_ops-over names component phase (Some substep) time step asked leaf =
-    All-map (IsOpOver names) _ (up_to (step / substep)) (λ k d inside.
+    All-map (IsOpOver names) _ (numbers_below (step / substep)) (λ k d inside.
     record { name = leaf.name; named = leaf.named; phase_below = leaf.phase_below; substep_is = substep-is leaf.name.substep (Some substep) step leaf.substep_is (All-at (λ name. IfSome name.substep IsStep) names component leaf.name asked.substeps leaf.named) })
 
 -- the runs of a link
@@ -86,46 +86,46 @@ leaves-Loop inner duration body = fold-roll-Element (List Leaf) leaves_step (Loo
 
 -- an element whose runs are over names has operations over them
 abbrev HasOver : List SeqName → Element → Type 0
-HasOver names e = All (IsLeafOver names) (leaves e) → (time step : ℕ) → All (IsOpOver names) (unroll e time step)
+HasOver names e = All (IsLeafOver names) (leaves e) → (time step : ℕ) → All (IsOpOver names) (element_ops e time step)
 
 -- so has each element of a body
-body-over : (names : List SeqName) (body : List Element) (time step : ℕ) → Every (HasOver names) body → IsBodyOver names body → Every (λ e. All (IsOpOver names) (unroll e time step)) body
+body-over : (names : List SeqName) (body : List Element) (time step : ℕ) → Every (HasOver names) body → IsBodyOver names body → Every (λ e. All (IsOpOver names) (element_ops e time step)) body
 body-over names [] time step each over = tt
 body-over names (e ∷ es) time step each over =
     (each.0 (All-left (IsLeafOver names) (leaves e) (flat_map leaves es) over) time step, body-over names es time step each.1 (All-right (IsLeafOver names) (leaves e) (flat_map leaves es) over))
 
 -- each element has
-unroll-over : (names : List SeqName) → AreNames names → (e : Element) → HasOver names e
-unroll-over names asked = induction (HasOver names)
-    (λ k over time step. rw (unroll-Link k time step) (All-cons (IsOpOver names) _ [] tt (All-nil (IsOpOver names))))
-    (λ component phase substep over time step. rw (unroll-Run component phase substep time step)
+element_ops-over : (names : List SeqName) → AreNames names → (e : Element) → HasOver names e
+element_ops-over names asked = induction (HasOver names)
+    (λ k over time step. rw (element_ops-Link k time step) (All-cons (IsOpOver names) _ [] tt (All-nil (IsOpOver names))))
+    (λ component phase substep over time step. rw (element_ops-Run component phase substep time step)
     (run_ops-over names component phase substep time step asked (All-head (IsLeafOver names) _ [] (subst (All (IsLeafOver names)) (leaves-Run component phase substep) over))))
-    (λ inner duration body each over time step. rw (unroll-Loop inner duration body time step)
-    (All-iterations (IsOpOver names) (λ start. unroll_all body start inner) inner duration time (λ n inside.
-    All-flat_map (IsOpOver names) (λ e. unroll e (time + n * inner) inner) body
+    (λ inner duration body each over time step. rw (element_ops-Loop inner duration body time step)
+    (All-iterations (IsOpOver names) (λ start. body_ops body start inner) inner duration time (λ n inside.
+    All-flat_map (IsOpOver names) (λ e. element_ops e (time + n * inner) inner) body
     (body-over names body (time + n * inner) inner each (subst (All (IsLeafOver names)) (leaves-Loop inner duration body) over)))))
 
 -- so have top loops
-tops-over : (names : List SeqName) → AreNames names → (begin rest : ℕ) (loops : List ReadLoop) → All (λ l. IsBodyOver names l.body) loops → Every (λ top. All (IsOpOver names) (unroll_top top)) (top_loops begin rest loops)
+tops-over : (names : List SeqName) → AreNames names → (begin rest : ℕ) (loops : List ReadLoop) → All (λ l. IsBodyOver names l.body) loops → Every (λ top. All (IsOpOver names) (top_ops top)) (top_loops begin rest loops)
 tops-over names asked begin rest [] over = tt
 tops-over names asked begin rest (l ∷ more) over = (
-  All-iterations (IsOpOver names) (λ start. unroll_all l.body start l.step) l.step (unwrap_or l.given rest) begin (λ n inside.
-      All-flat_map (IsOpOver names) (λ e. unroll e (begin + n * l.step) l.step) l.body
-      (body-over names l.body (begin + n * l.step) l.step (every_all (HasOver names) (unroll-over names asked) l.body) (All-head (λ m. IsBodyOver names m.body) l more over))),
+  All-iterations (IsOpOver names) (λ start. body_ops l.body start l.step) l.step (unwrap_or l.given rest) begin (λ n inside.
+      All-flat_map (IsOpOver names) (λ e. element_ops e (begin + n * l.step) l.step) l.body
+      (body-over names l.body (begin + n * l.step) l.step (every_all (HasOver names) (element_ops-over names asked) l.body) (All-head (λ m. IsBodyOver names m.body) l more over))),
   tops-over names asked (begin + unwrap_or l.given rest) rest more (All-tail (λ m. IsBodyOver names m.body) l more over),
 )
 
 -- and the whole sequence
 pub whole-over : (names : List SeqName) (span : Option ℕ) (room : ℕ) (r : Reading) (seq : Sequence) → AreNames names → IsReadingOver names r → whole_of span room r ≡ Ok seq → IsSound seq → length seq.links < 2 ^ 16 → IsOver names seq
 whole-over names span room r seq asked over is sound few =
-    let a = first_ok (λ (u : Unit {0}). durations_check span r.loops >>= (λ _. span_of span room r.loops >>= (λ n. Ok (record { links = r.links; loops = top_loops 0 (n - total r.loops) r.loops; span = pos n })))) (closed_check (innermost_loop r.open_loops)) seq is in
-    let b = first_ok (λ (u : Unit {0}). span_of span room r.loops >>= (λ n. Ok (record { links = r.links; loops = top_loops 0 (n - total r.loops) r.loops; span = pos n }))) (durations_check span r.loops) seq a.2 in
-    let c = first_ok (λ n. Ok (record { links = r.links; loops = top_loops 0 (n - total r.loops) r.loops; span = pos n })) (span_of span room r.loops) seq b.2 in
-    let made : Sequence = record { links = r.links; loops = top_loops 0 (c.0 - total r.loops) r.loops; span = pos c.0 } in
+    let a = first_ok (λ (u : Unit {0}). durations_check span r.loops >>= (λ _. span_of span room r.loops >>= (λ n. Ok (record { links = r.links; loops = top_loops 0 (n - total_duration r.loops) r.loops; span = pos n })))) (closed_check (innermost_loop r.open_loops)) seq is in
+    let b = first_ok (λ (u : Unit {0}). span_of span room r.loops >>= (λ n. Ok (record { links = r.links; loops = top_loops 0 (n - total_duration r.loops) r.loops; span = pos n }))) (durations_check span r.loops) seq a.2 in
+    let c = first_ok (λ n. Ok (record { links = r.links; loops = top_loops 0 (n - total_duration r.loops) r.loops; span = pos n })) (span_of span room r.loops) seq b.2 in
+    let made : Sequence = record { links = r.links; loops = top_loops 0 (c.0 - total_duration r.loops) r.loops; span = pos c.0 } in
     let same : made ≡ seq = cc (c.2) in
     record {
-      operations = subst (λ (s : Sequence). All (IsOpOver names) (unrolled s)) same (All-flat_map (IsOpOver names) unroll_top made.loops (tops-over names asked 0 (c.0 - total r.loops) r.loops over.loops_over));
-      within = unrolled-within seq sound;
+      operations = subst (λ (s : Sequence). All (IsOpOver names) (operations_of s)) same (All-flat_map (IsOpOver names) top_ops made.loops (tops-over names asked 0 (c.0 - total_duration r.loops) r.loops over.loops_over));
+      within = operations_of-within seq sound;
       ends = subst (λ (s : Sequence). All (IsLinkOver names) s.links) same over.links_over;
       pairs = subst (λ (s : Sequence). AreOfPairs s.links) same over.pairs;
       few = few;

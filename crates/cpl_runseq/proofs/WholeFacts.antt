@@ -13,7 +13,7 @@ use Rattle.cpl_runseq.specs.declared.read_loop.ReadLoop.{ReadLoop}
 use Rattle.cpl_runseq.specs.ReadingBounds.{IsReading, IsTopLoop, full_length}
 use Rattle.cpl_sequence.specs.Sound.{IsSound, are_end_to_end, is_linked, is_nested, is_timed, is_timed_top}
 use Rattle.cpl_runseq.specs.Reading.{Reading, divides}
-use Rattle.cpl_runseq.specs.Whole.{durations_check, makes_up, rest_check, span_of, top_loops, total}
+use Rattle.cpl_runseq.specs.Whole.{durations_check, makes_up, rest_check, span_of, top_loops, total_duration}
 use Rattle.cpl_runseq.proofs.BodyFacts.{loop-is}
 use Rattle.cpl_runseq.proofs.LengthFacts.{full_length-is}
 use Rattle.cpl_runseq.proofs.ResultFacts.{first_ok, test_ok}
@@ -76,38 +76,38 @@ wholes-own count rest (l ∷ more) all last =
     ]
 
 -- whether the span is given or not
-wholes : (count : ℕ) (span : Option ℕ) (room : ℕ) (loops : List ReadLoop) (lasts : ℕ) → All (IsTopLoop count) loops → durations_check span loops ≡ Ok tt → span_of span room loops ≡ Ok lasts → All (IsWhole count (lasts - total loops)) loops
-wholes count None room loops lasts all last is = wholes-own count (lasts - total loops) loops all last
+wholes : (count : ℕ) (span : Option ℕ) (room : ℕ) (loops : List ReadLoop) (lasts : ℕ) → All (IsTopLoop count) loops → durations_check span loops ≡ Ok tt → span_of span room loops ≡ Ok lasts → All (IsWhole count (lasts - total_duration loops)) loops
+wholes count None room loops lasts all last is = wholes-own count (lasts - total_duration loops) loops all last
 wholes count (Some span) room loops lasts all last is =
-    let made = test_ok (makes_up span loops) (SpanMismatch (total loops) (pos span)) (λ _. rest_check (span - total loops) loops >>= (λ _. Ok span)) lasts is in
-    let even = first_ok (λ (u : Unit {0}). Ok span) (rest_check (span - total loops) loops) lasts made.1 in
+    let made = test_ok (makes_up span loops) (SpanMismatch (total_duration loops) (pos span)) (λ _. rest_check (span - total_duration loops) loops >>= (λ _. Ok span)) lasts is in
+    let even = first_ok (λ (u : Unit {0}). Ok span) (rest_check (span - total_duration loops) loops) lasts made.1 in
     let same : span ≡ lasts = cc (even.2) in
-    let P : ℕ → Type 0 = λ n. All (IsWhole count (n - total loops)) loops in
-    subst P same (wholes-rest count (span - total loops) loops all even.1)
+    let P : ℕ → Type 0 = λ n. All (IsWhole count (n - total_duration loops)) loops in
+    subst P same (wholes-rest count (span - total_duration loops) loops all even.1)
 
 -- how long a run lasts at most
 pub lasts-most : (span : Option ℕ) (room : ℕ) (loops : List ReadLoop) (lasts : ℕ) → IfSome span (λ s. s ≤ 2 ^ 40) → room ≤ 2 ^ 40 → span_of span room loops ≡ Ok lasts → lasts ≤ 2 ^ 40
 lasts-most None room loops lasts given most is =
-    elim (cases_Bool (ltb 0 (total loops) && ltb (total loops) room)) [
+    elim (cases_Bool (ltb 0 (total_duration loops) && ltb (total_duration loops) room)) [
       | inl e ↦
-          let same : Ok (total loops) ≡ Ok lasts = rw e at is in
-          let at : total loops ≡ lasts = cc in
-          let below = ltb-true (total loops) room (and_parts (ltb 0 (total loops)) (ltb (total loops) room) e).1 in
+          let same : Ok (total_duration loops) ≡ Ok lasts = rw e at is in
+          let at : total_duration loops ≡ lasts = cc in
+          let below = ltb-true (total_duration loops) room (and_parts (ltb 0 (total_duration loops)) (ltb (total_duration loops) room) e).1 in
           omega arith
-      | inr e ↦ let bad : Err (SpanTooLong (total loops)) ≡ Ok lasts = rw e at is in absurd (cc)
+      | inr e ↦ let bad : Err (SpanTooLong (total_duration loops)) ≡ Ok lasts = rw e at is in absurd (cc)
     ]
 lasts-most (Some span) room loops lasts given most is =
-    let made = test_ok (makes_up span loops) (SpanMismatch (total loops) (pos span)) (λ _. rest_check (span - total loops) loops >>= (λ _. Ok span)) lasts is in
-    let even = first_ok (λ (u : Unit {0}). Ok span) (rest_check (span - total loops) loops) lasts made.1 in
+    let made = test_ok (makes_up span loops) (SpanMismatch (total_duration loops) (pos span)) (λ _. rest_check (span - total_duration loops) loops >>= (λ _. Ok span)) lasts is in
+    let even = first_ok (λ (u : Unit {0}). Ok span) (rest_check (span - total_duration loops) loops) lasts made.1 in
     let same : span ≡ lasts = cc (even.2) in
     omega arith
 
 -- the sequence is sound
 pub tops_sound : (r : Reading) (span : Option ℕ) (room length : ℕ) → IsReading r → IfSome span (λ s. s ≤ 2 ^ 40) → room ≤ 2 ^ 40 → durations_check span r.loops ≡ Ok tt → span_of span room r.loops ≡ Ok length
-    → IsSound (record { links = r.links; loops = top_loops 0 (length - total r.loops) r.loops; span = pos length })
+    → IsSound (record { links = r.links; loops = top_loops 0 (length - total_duration r.loops) r.loops; span = pos length })
 tops_sound r span room length reading given most last is =
     let count = Rattle.std.proofs.Common.length r.links in
-    let rest = length - total r.loops in
+    let rest = length - total_duration r.loops in
     let all = wholes count span room r.loops length reading.loops_fit last is in
     record {
       timed = top_loops-all is_timed_top (IsWhole count rest) rest (timed-top count rest) 0 r.loops all;

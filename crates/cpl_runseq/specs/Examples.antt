@@ -46,11 +46,20 @@ link_of src dst line = record { src = src; dst = dst; method = Redist; file = []
 
 -- sequences that are read, and sequences with their faults
 pub record ReadingExamples : Type 0 where
-  pub nested_loop : read (Some 8) (Some 3600) (codes "@4" ∷ codes "@*" ∷ codes "B" ∷ codes "@" ∷ codes "@" ∷ []) ≡ Ok (record { links = []; loops = top 0 4 8 (loop 4 4 (b_runs ∷ []) ∷ []) ∷ []; span = pos 8 })
-  pub own_step : read None (Some 3600) (codes "@*:7200" ∷ codes "B mean" ∷ codes "@" ∷ []) ≡ Ok (record { links = []; loops = top 0 3600 7200 (roll-Element (Run 1 1 None) ∷ []) ∷ []; span = pos 7200 })
-  pub arrows : read None None (codes "@2:4" ∷ codes "A->B" ∷ codes "B->A :x" ∷ codes "A" ∷ codes "A -> B :SRCTERMPROCESSING=-0" ∷ codes "@" ∷ []) ≡ Ok (record { links = link_of 0 1 2 ∷ link_of 1 0 3 ∷ []; loops = top 0 2 4 (roll-Element (Link 0) ∷ roll-Element (Link 1) ∷ roll-Element (Run 0 0 (Some 2)) ∷ roll-Element (Link 0) ∷ []) ∷ []; span = pos 4 })
-  pub last_option : read None None (codes "@2:4" ∷ codes "A -> B :remapMethod=none:remapMethod=redist" ∷ codes "@" ∷ []) ≡ Ok (record { links = link_of 0 1 2 ∷ []; loops = top 0 2 4 (roll-Element (Link 0) ∷ []) ∷ []; span = pos 4 })
-  pub empty_loops : read (Some 10) None (codes "@2:4" ∷ codes "@1" ∷ codes "@" ∷ codes "@" ∷ codes "@3" ∷ codes "B" ∷ codes "@" ∷ []) ≡ Ok (record { links = []; loops = top 0 2 4 (loop 1 2 [] ∷ []) ∷ top 4 3 6 (b_runs ∷ []) ∷ []; span = pos 10 })
+  pub nested_loop : read (Some 8) (Some 3600) (codes "@4" ∷ codes "@*" ∷ codes "B" ∷ codes "@" ∷ codes "@" ∷ [])
+      ≡ Ok (record { links = []; loops = top 0 4 8 (loop 4 4 (b_runs ∷ []) ∷ []) ∷ []; span = pos 8 })
+  pub own_step : read None (Some 3600) (codes "@*:7200" ∷ codes "B mean" ∷ codes "@" ∷ [])
+      ≡ Ok (record { links = []; loops = top 0 3600 7200 (roll-Element (Run 1 1 None) ∷ []) ∷ []; span = pos 7200 })
+  pub arrows : read None None (codes "@2:4" ∷ codes "A->B" ∷ codes "B->A :x" ∷ codes "A" ∷ codes "A -> B :SRCTERMPROCESSING=-0" ∷ codes "@" ∷ [])
+      ≡ Ok (record {
+        links = link_of 0 1 2 ∷ link_of 1 0 3 ∷ [];
+        loops = top 0 2 4 (roll-Element (Link 0) ∷ roll-Element (Link 1) ∷ roll-Element (Run 0 0 (Some 2)) ∷ roll-Element (Link 0) ∷ []) ∷ [];
+        span = pos 4;
+      })
+  pub last_option : read None None (codes "@2:4" ∷ codes "A -> B :remapMethod=none:remapMethod=redist" ∷ codes "@" ∷ [])
+      ≡ Ok (record { links = link_of 0 1 2 ∷ []; loops = top 0 2 4 (roll-Element (Link 0) ∷ []) ∷ []; span = pos 4 })
+  pub empty_loops : read (Some 10) None (codes "@2:4" ∷ codes "@1" ∷ codes "@" ∷ codes "@" ∷ codes "@3" ∷ codes "B" ∷ codes "@" ∷ [])
+      ≡ Ok (record { links = []; loops = top 0 2 4 (loop 1 2 [] ∷ []) ∷ top 4 3 6 (b_runs ∷ []) ∷ []; span = pos 10 })
   pub uneven_step : read (Some 3600) None (codes "@7" ∷ codes "B" ∷ codes "@" ∷ []) ≡ Err (StepUneven 1)
   pub span_mismatch : read (Some 3600) None (codes "@900:1800" ∷ codes "B" ∷ codes "@" ∷ codes "@900:900" ∷ codes "B" ∷ codes "@" ∷ []) ≡ Err (SpanMismatch 2700 (pos 3600))
   pub step_unset : read None None (codes "@*:3" ∷ codes "B" ∷ codes "@" ∷ []) ≡ Err (StepUnset 1)
@@ -75,7 +84,12 @@ pub record ReadingExamples : Type 0 where
   pub option_without_colon : read None None (codes "@2:4" ∷ codes "A -> B :remapMethod=none x" ∷ []) ≡ Err (BadElement 2)
   pub option_bad_terms : read None None (codes "@2:4" ∷ codes "A -> B :srcTermProcessing=+1" ∷ []) ≡ Err (BadElement 2)
   pub weights_without_file : read None None (codes "@2:4" ∷ codes "A -> B :REMAPMETHOD=Weights:weightFile=" ∷ []) ≡ Err (BadElement 2)
-  pub weights : read None None (codes "@2:4" ∷ codes "A -> B :remapmethod=weights :weightfile=w:srctermprocessing=-2" ∷ codes "@" ∷ []) ≡ Ok (record { links = record { src = 0; dst = 1; method = Weights; file = codes "w"; terms = neg_ℤ (pos 2); line = 2 } ∷ []; loops = top 0 2 4 (roll-Element (Link 0) ∷ []) ∷ []; span = pos 4 })
+  pub weights : read None None (codes "@2:4" ∷ codes "A -> B :remapmethod=weights :weightfile=w:srctermprocessing=-2" ∷ codes "@" ∷ [])
+      ≡ Ok (record {
+        links = record { src = 0; dst = 1; method = Weights; file = codes "w"; terms = neg_ℤ (pos 2); line = 2 } ∷ [];
+        loops = top 0 2 4 (roll-Element (Link 0) ∷ []) ∷ [];
+        span = pos 4;
+      })
   pub options_differ : read None None (codes "@2:4" ∷ codes "A -> B" ∷ codes "A -> B :srcTermProcessing=1" ∷ []) ≡ Err (OptionsDiffer 3)
   pub unclosed : read None None (codes "@2:4" ∷ codes "@1" ∷ []) ≡ Err (LoopUnclosed 2)
   pub duration_missing : read None None (codes "@2" ∷ codes "B" ∷ codes "@" ∷ []) ≡ Err (DurationMissing 1)

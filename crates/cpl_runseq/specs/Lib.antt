@@ -1,8 +1,8 @@
 pub use Rattle.cpl_sequence.specs.Bounds
+pub use Rattle.cpl_sequence.specs.Operations
 pub use Rattle.cpl_sequence.specs.Remainder
 pub use Rattle.cpl_sequence.specs.Sequence
 pub use Rattle.cpl_sequence.specs.Sound
-pub use Rattle.cpl_sequence.specs.Unrolled
 pub mod Asked
 pub mod Causes
 pub mod EmptyLoops

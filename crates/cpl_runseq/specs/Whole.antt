@@ -26,8 +26,8 @@ durations_check span (l ∷ more) =
     else Err (DurationMissing l.line)
 
 -- how long the loops with a duration last together
-abbrev pub total : List ReadLoop → ℕ
-total loops = sum_by (λ l. unwrap_or l.given 0) loops
+abbrev pub total_duration : List ReadLoop → ℕ
+total_duration loops = sum_by (λ l. unwrap_or l.given 0) loops
 
 -- whether a loop takes the rest of the span
 abbrev pub has_rest : List ReadLoop → Bool
@@ -35,7 +35,7 @@ has_rest loops = list_any (λ l. not (is_some l.given)) loops
 
 -- whether the durations make up the span, or leave something of it where a loop takes the rest
 abbrev pub makes_up : ℕ → List ReadLoop → Bool
-makes_up span loops = if has_rest loops then nat_lt (total loops) span else total loops == span
+makes_up span loops = if has_rest loops then nat_lt (total_duration loops) span else total_duration loops == span
 
 -- the step of a loop that takes the rest divides it
 abbrev pub rest_check : ℕ → List ReadLoop → Result (Unit {0}) SeqFault
@@ -45,12 +45,12 @@ rest_check rest (l ∷ more) = if is_some l.given || divides l.step rest then re
 -- how long the run lasts where that is given
 abbrev pub given_span : ℕ → List ReadLoop → Result ℕ SeqFault
 given_span span loops =
-    ok_if (makes_up span loops) (SpanMismatch (total loops) (pos span)) >>= (λ _.
-    rest_check (span - total loops) loops >>= (λ _. Ok span))
+    ok_if (makes_up span loops) (SpanMismatch (total_duration loops) (pos span)) >>= (λ _.
+    rest_check (span - total_duration loops) loops >>= (λ _. Ok span))
 
 -- how long it lasts where that isn't given: as long as its loops
 abbrev pub own_span : ℕ → List ReadLoop → Result ℕ SeqFault
-own_span room loops = if nat_lt 0 (total loops) && nat_lt (total loops) room then Ok (total loops) else Err (SpanTooLong (total loops))
+own_span room loops = if nat_lt 0 (total_duration loops) && nat_lt (total_duration loops) room then Ok (total_duration loops) else Err (SpanTooLong (total_duration loops))
 
 -- how long the run lasts
 abbrev pub span_of : Option ℕ → ℕ → List ReadLoop → Result ℕ SeqFault
@@ -69,7 +69,7 @@ whole_of span room reading =
     closed_check (innermost_loop reading.open_loops) >>= (λ _.
     durations_check span reading.loops >>= (λ _.
     span_of span room reading.loops >>= (λ length.
-    Ok (record { links = reading.links; loops = top_loops 0 (length - total reading.loops) reading.loops; span = pos length }))))
+    Ok (record { links = reading.links; loops = top_loops 0 (length - total_duration reading.loops) reading.loops; span = pos length }))))
 
 -- the sequence that rows are as they are written, over these components, or the first fault; with the span and the
 -- step where they are given, and the room, all in seconds

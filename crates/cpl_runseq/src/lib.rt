@@ -1,6 +1,6 @@
 //! The rows of a run sequence, read as a tree of loops over the components that it may name.
 //!
-//! The tree and the operations that it unrolls to are those of `cpl_sequence`, whose names stand here too.
+//! The tree and the operations that it stands for are those of `cpl_sequence`, whose names stand here too.
 #![tactic(auto)]
 
 mod elements;

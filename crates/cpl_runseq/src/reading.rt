@@ -4,7 +4,7 @@ ghost use Rattle.std.specs.Prelude.{◌≡◌, ◌≤◌, ◌^◌, Ok, IfErr, If
 ghost use Rattle.cpl_base.specs.Gives.{Gives};
 ghost use Rattle.cpl_base.specs.Words.{texts};
 ghost use Rattle.cpl_sequence.specs.Bounds.{IsOver};
-ghost use Rattle.cpl_sequence.specs.Unrolled.{unrolled};
+ghost use Rattle.cpl_sequence.specs.Operations.{operations_of};
 ghost use Rattle.cpl_runseq.specs.Asked.{AreFew, AreNames, IsAsked};
 ghost use Rattle.cpl_runseq.specs.Causes.{IsCaused};
 ghost use Rattle.cpl_runseq.specs.EmptyLoops.{filled_sequence, result_map};
@@ -68,7 +68,7 @@ pub fn read_sequence(
     requires { IsAsked names.now span time_step room }
     ensures answer { Gives SeqFault.Memory (λ sequence. sequence) result (filled_sequence names.now span time_step room rows.now) }
     // No operation goes with the loops that go.
-    ensures operations { IfOk result (λ sequence. result_map unrolled (sequence_of names.now span time_step room rows.now) ≡ Ok (unrolled sequence)) }
+    ensures operations { IfOk result (λ sequence. result_map operations_of (sequence_of names.now span time_step room rows.now) ≡ Ok (operations_of sequence)) }
     ensures over { IfOk result (IsOver names.now) }
 {
     let span = magnitude(span);

@@ -6,7 +6,7 @@ ghost use Rattle.cpl_runseq.specs.Causes.{IsCaused};
 ghost use Rattle.cpl_runseq.specs.Reading.{innermost_loop};
 ghost use Rattle.cpl_runseq.specs.ReadingBounds.{IsReading, full_length};
 ghost use Rattle.cpl_runseq.specs.Views.{reading_view};
-ghost use Rattle.cpl_runseq.specs.Whole.{closed_check, durations_check, given_span, has_rest, makes_up, own_span, rest_check, span_of, top_loops, total, whole_of};
+ghost use Rattle.cpl_runseq.specs.Whole.{closed_check, durations_check, given_span, has_rest, makes_up, own_span, rest_check, span_of, top_loops, total_duration, whole_of};
 
 use crate::fault::SeqFault;
 use crate::loops::divides;
@@ -135,14 +135,14 @@ fn rest_check(rest: u64, loops: &[ReadLoop]) -> Result<(), SeqFault>
 
 /// What is left of a span behind the loops with a duration.
 fn rest_of(span: u64, loops: &[ReadLoop]) -> u64
-    ensures { result ≡ span - total loops.now }
+    ensures { result ≡ span - total_duration loops.now }
 {
     u128::from(span).saturating_sub(total(loops)) as u64
 }
 
 /// How long the loops with a duration last together.
 fn total(loops: &[ReadLoop]) -> u128
-    ensures { result ≡ total loops.now }
+    ensures { result ≡ total_duration loops.now }
 {
     let mut sum = 0;
     for l in loops {

@@ -8,7 +8,7 @@ use Rattle.cpl_sequence.specs.Remainder.{FitsIn, FitsTop, IsFilledFrom, IsCursor
 use Rattle.cpl_sequence.specs.Sequence.{Sequence}
 use Rattle.cpl_sequence.specs.Sound.{IsSound, is_loop, is_nested, is_timed, is_timed_top}
 use Rattle.cpl_sequence.specs.Turns.{StepsLoop, start_frames, turned_frames}
-use Rattle.cpl_sequence.specs.Unrolled.{unroll_all, unroll_top, unrolled, up_to}
+use Rattle.cpl_sequence.specs.Operations.{body_ops, top_ops, operations_of, numbers_below}
 use Rattle.cpl_sequence.specs.Bounds.{IsOpOver, IsOpWithin, IsOver}
 use Rattle.cpl_sequence.specs.declared.element.Element.{Element}
 use Rattle.cpl_sequence.specs.declared.element.TopLoop.{TopLoop}
@@ -51,7 +51,7 @@ current_fits seq spot top of got = subst (λ o. MatchOption o ⊤ (FitsTop spot.
 
 -- a cursor that has to give all from a loop on
 pub record IsBegun (seq : Sequence) (spot : Spot) : Type 0 where
-  pub all : remainder seq spot ≡ flat_map unroll_top (drop spot.top seq.loops)
+  pub all : remainder seq spot ≡ flat_map top_ops (drop spot.top seq.loops)
   pub levels : length spot.frames ≡ 9
   pub fits : MatchOption (slice_get seq.loops spot.top) ⊤ (FitsTop spot.frames)
 
@@ -61,7 +61,7 @@ some_length [] some = absurd (some refl)
 some_length (x ∷ xs) some = omega arith
 
 -- a loop in its first round
-begun_top : (top : TopLoop) (frames : List Frame) → length frames ≡ 8 → IsCurrent top → 0 < length top.body → (remainder_of_top (start_frame ∷ start_frames frames) top ≡ unroll_top top) × FitsTop (start_frame ∷ start_frames frames) top
+begun_top : (top : TopLoop) (frames : List Frame) → length frames ≡ 8 → IsCurrent top → 0 < length top.body → (remainder_of_top (start_frame ∷ start_frames frames) top ≡ top_ops top) × FitsTop (start_frame ∷ start_frames frames) top
 begun_top top frames levels here some =
     let sound : IsBody 7 top.step top.duration top.body = record { some = some; loop = top_from top here.timed; nested = here.nested } in
     let first = first_of 7 top.step top.duration top.body sound in
@@ -82,8 +82,8 @@ begun_at : (seq : Sequence) (at : ℕ) (frames : List Frame) (o : Option TopLoop
 begun_at seq at frames None is levels sound filled = record {
   all =
       let past = none_past seq.loops at is in
-      ap (λ o. flat_map (remainder_of_top (start_frame ∷ start_frames frames)) (option_to_list o) ++ flat_map unroll_top (drop (at + 1) seq.loops)) is
-      ∙ ap (flat_map unroll_top) (drop_all (at + 1) seq.loops (omega arith) ∙ sym (drop_all at seq.loops past));
+      ap (λ o. flat_map (remainder_of_top (start_frame ∷ start_frames frames)) (option_to_list o) ++ flat_map top_ops (drop (at + 1) seq.loops)) is
+      ∙ ap (flat_map top_ops) (drop_all (at + 1) seq.loops (omega arith) ∙ sym (drop_all at seq.loops past));
   levels = omega (arith, length-map frames (λ x. start_frame));
   fits = subst (λ o. MatchOption o ⊤ (FitsTop (start_frame ∷ start_frames frames))) (sym is) tt;
 }
@@ -91,9 +91,9 @@ begun_at seq at frames (Some top) is levels sound filled =
     let begun = begun_top top frames levels (current seq at top sound is) filled in
     record {
       all =
-          ap (λ o. flat_map (remainder_of_top (start_frame ∷ start_frames frames)) (option_to_list o) ++ flat_map unroll_top (drop (at + 1) seq.loops)) is
-          ∙ ap (λ ops. ops ++ flat_map unroll_top (drop (at + 1) seq.loops)) (append-nil (remainder_of_top (start_frame ∷ start_frames frames) top) ∙ begun.0)
-          ∙ ap (flat_map unroll_top) (sym (drop_get seq.loops at top is));
+          ap (λ o. flat_map (remainder_of_top (start_frame ∷ start_frames frames)) (option_to_list o) ++ flat_map top_ops (drop (at + 1) seq.loops)) is
+          ∙ ap (λ ops. ops ++ flat_map top_ops (drop (at + 1) seq.loops)) (append-nil (remainder_of_top (start_frame ∷ start_frames frames) top) ∙ begun.0)
+          ∙ ap (flat_map top_ops) (sym (drop_get seq.loops at top is));
       levels = omega (arith, length-map frames (λ x. start_frame));
       fits = subst (λ o. MatchOption o ⊤ (FitsTop (start_frame ∷ start_frames frames))) (sym is) begun.1;
     }
@@ -104,7 +104,7 @@ begun seq from at [] levels sound filled = absurd (omega arith)
 begun seq from at (frame ∷ frames) levels sound filled = begun_at seq at frames (slice_get seq.loops at) refl (omega arith) sound filled.filled
 
 -- a new cursor has all to give
-pub begun_of : (seq : Sequence) (at : ℕ) (frames : List Frame) → length frames ≡ 9 → IsSound seq → IsFilledFrom seq.loops 0 at → remainder seq (record { top = at; frames = start_frames frames }) ≡ unrolled seq
+pub begun_of : (seq : Sequence) (at : ℕ) (frames : List Frame) → length frames ≡ 9 → IsSound seq → IsFilledFrom seq.loops 0 at → remainder seq (record { top = at; frames = start_frames frames }) ≡ operations_of seq
 begun_of seq at frames levels sound filled = (begun seq 0 at frames levels sound filled).all ∙ sym filled.empty
 
 -- and is one of the sequence
@@ -118,7 +118,7 @@ of_begun seq at frames levels sound filled =
 -- loops that were skipped
 pub record IsSkipping (tops : List TopLoop) (from place : ℕ) : Type 0 where
   pub behind : from ≤ place
-  pub empty : flat_map unroll_top (drop from tops) ≡ flat_map unroll_top (drop place tops)
+  pub empty : flat_map top_ops (drop from tops) ≡ flat_map top_ops (drop place tops)
 
 -- none yet
 pub skipping_none : (tops : List TopLoop) (from : ℕ) → IsSkipping tops from from
@@ -134,10 +134,10 @@ nothing_each [] = refl
 nothing_each (n ∷ ns) = nothing_each ns
 
 -- a loop in which nothing stands has no operations
-unroll_top-empty : (top : TopLoop) → top.body ≡ [] → unroll_top top ≡ []
-unroll_top-empty top none =
-    ap (λ body. flat_map (λ n. unroll_all body (top.begin + n * top.step) top.step) (up_to (top.duration / top.step))) none
-    ∙ nothing_each (up_to (top.duration / top.step))
+top_ops-empty : (top : TopLoop) → top.body ≡ [] → top_ops top ≡ []
+top_ops-empty top none =
+    ap (λ body. flat_map (λ n. body_ops body (top.begin + n * top.step) top.step) (numbers_below (top.duration / top.step))) none
+    ∙ nothing_each (numbers_below (top.duration / top.step))
 
 -- one more
 pub skipping_more : (tops : List TopLoop) (from place : ℕ) (top : TopLoop) → place < length tops → top ≡ get_or tops place top → top.body ≡ [] → IsSkipping tops from place → IsSkipping tops from (place + 1)
@@ -145,8 +145,8 @@ skipping_more tops from place top inside is none so_far = record {
   behind = omega (arith, so_far.behind);
   empty =
       so_far.empty
-      ∙ ap (flat_map unroll_top) (drop_more tops place top inside ∙ ap (λ t. t ∷ drop (place + 1) tops) (sym is))
-      ∙ ap (λ ops. ops ++ flat_map unroll_top (drop (place + 1) tops)) (unroll_top-empty top none);
+      ∙ ap (flat_map top_ops) (drop_more tops place top inside ∙ ap (λ t. t ∷ drop (place + 1) tops) (sym is))
+      ∙ ap (λ ops. ops ++ flat_map top_ops (drop (place + 1) tops)) (top_ops-empty top none);
 }
 
 -- up to a loop in which something stands
@@ -163,7 +163,7 @@ pub skipping_end : (tops : List TopLoop) (from place : ℕ) → from ≤ length 
 skipping_end tops from place inside end so_far = record {
   behind = inside;
   inside = omega arith;
-  empty = so_far.empty ∙ ap (flat_map unroll_top) (drop_all place tops end ∙ sym (drop_all (length tops) tops (omega arith)));
+  empty = so_far.empty ∙ ap (flat_map top_ops) (drop_all place tops end ∙ sym (drop_all (length tops) tops (omega arith)));
   filled = subst (λ o. IfSome o (λ t. 0 < length t.body)) (sym (slice_get_past tops (length tops) (omega arith))) tt;
 }
 
@@ -179,16 +179,16 @@ pub record IsNext (seq : Sequence) (old new : Spot) (given : Option Op) : Type 0
 pub past_end : (seq : Sequence) (spot : Spot) → slice_get seq.loops spot.top ≡ None → remainder seq spot ≡ []
 past_end seq spot is =
     let past = none_past seq.loops spot.top is in
-    ap (λ o. flat_map (remainder_of_top spot.frames) (option_to_list o) ++ flat_map unroll_top (drop (spot.top + 1) seq.loops)) is
-    ∙ ap (flat_map unroll_top) (drop_all (spot.top + 1) seq.loops (omega arith))
+    ap (λ o. flat_map (remainder_of_top spot.frames) (option_to_list o) ++ flat_map top_ops (drop (spot.top + 1) seq.loops)) is
+    ∙ ap (flat_map top_ops) (drop_all (spot.top + 1) seq.loops (omega arith))
 
 -- so the cursor stays
 pub next_none : (seq : Sequence) (spot : Spot) → IsCursorOf seq spot → slice_get seq.loops spot.top ≡ None → IsNext seq spot spot None
 next_none seq spot of is = record { levels = of.levels; fits = of.fits; gives = (past_end seq spot is, past_end seq spot is) }
 
 -- what is left, at the loop at which the cursor stands
-left_at : (seq : Sequence) (spot : Spot) (top : TopLoop) → slice_get seq.loops spot.top ≡ Some top → remainder seq spot ≡ (remainder_of_top spot.frames top ++ []) ++ flat_map unroll_top (drop (spot.top + 1) seq.loops)
-left_at seq spot top is = ap (λ o. flat_map (remainder_of_top spot.frames) (option_to_list o) ++ flat_map unroll_top (drop (spot.top + 1) seq.loops)) is
+left_at : (seq : Sequence) (spot : Spot) (top : TopLoop) → slice_get seq.loops spot.top ≡ Some top → remainder seq spot ≡ (remainder_of_top spot.frames top ++ []) ++ flat_map top_ops (drop (spot.top + 1) seq.loops)
+left_at seq spot top is = ap (λ o. flat_map (remainder_of_top spot.frames) (option_to_list o) ++ flat_map top_ops (drop (spot.top + 1) seq.loops)) is
 
 -- an operation with one behind it in the same loop
 pub next_turn : (seq : Sequence) (old : Spot) (top : TopLoop) (op : Op) (turn : Turn) → IsCursorOf seq old → slice_get seq.loops old.top ≡ Some top → StepsLoop old.frames top.step top.duration top.body top.begin (record { op = op; turn = Some turn }) → IsNext seq old (record { top = old.top; frames = turned_frames old.frames turn.level turn.frame }) (Some op)
@@ -199,7 +199,7 @@ next_turn seq old top op turn of is steps =
       fits = subst (λ o. MatchOption o ⊤ (FitsTop new.frames)) (sym is) steps.fits;
       gives =
           left_at seq old top is
-          ∙ ap (λ ops. (ops ++ []) ++ flat_map unroll_top (drop (old.top + 1) seq.loops)) steps.gives
+          ∙ ap (λ ops. (ops ++ []) ++ flat_map top_ops (drop (old.top + 1) seq.loops)) steps.gives
           ∙ ap (λ ops. op ∷ ops) (sym (left_at seq new top is));
     }
 
@@ -217,7 +217,7 @@ next_top seq old at top op sound of is filled steps =
       fits = after.fits;
       gives =
           left_at seq old top is
-          ∙ ap (λ ops. (ops ++ []) ++ flat_map unroll_top (drop (old.top + 1) seq.loops)) steps.gives
+          ∙ ap (λ ops. (ops ++ []) ++ flat_map top_ops (drop (old.top + 1) seq.loops)) steps.gives
           ∙ ap (λ ops. op ∷ ops) (filled.empty ∙ sym after.all);
     })
 
@@ -239,12 +239,12 @@ drop_first xs k y ys first =
     (slice_get-get_or xs k y inside ∙ ap Some here, behind)
 
 -- a cursor that gave k operations gives the k-th
-pub in_order : (seq : Sequence) (old new : Spot) (given : Option Op) → IsNext seq old new given → (k : ℕ) → remainder seq old ≡ drop k (unrolled seq) → (given ≡ slice_get (unrolled seq) k) × (remainder seq new ≡ drop (k + 1) (unrolled seq))
+pub in_order : (seq : Sequence) (old new : Spot) (given : Option Op) → IsNext seq old new given → (k : ℕ) → remainder seq old ≡ drop k (operations_of seq) → (given ≡ slice_get (operations_of seq) k) × (remainder seq new ≡ drop (k + 1) (operations_of seq))
 in_order seq old new None next k is =
-    let none = drop_none (unrolled seq) k (sym is ∙ next.gives.0) in
+    let none = drop_none (operations_of seq) k (sym is ∙ next.gives.0) in
     (sym none.0, next.gives.1 ∙ sym none.1)
 in_order seq old new (Some op) next k is =
-    let first = drop_first (unrolled seq) k op (remainder seq new) (sym is ∙ next.gives) in
+    let first = drop_first (operations_of seq) k op (remainder seq new) (sym is ∙ next.gives) in
     (sym first.0, sym first.1)
 
 -- so the cursor is one of the sequence
@@ -260,7 +260,7 @@ next_of seq old new given of next = record {
 pub record IsGiven (seq : Sequence) (old new : Spot) (given : Option Op) : Type 0 where
   pub of : IsCursorOf seq new
   pub gives : MatchOption given ((remainder seq old ≡ []) × (remainder seq new ≡ [])) (λ op. remainder seq old ≡ op ∷ remainder seq new)
-  pub in_order : (k : ℕ) → remainder seq old ≡ drop k (unrolled seq) → (given ≡ slice_get (unrolled seq) k) × (remainder seq new ≡ drop (k + 1) (unrolled seq))
+  pub in_order : (k : ℕ) → remainder seq old ≡ drop k (operations_of seq) → (given ≡ slice_get (operations_of seq) k) × (remainder seq new ≡ drop (k + 1) (operations_of seq))
   pub within : IfSome given (IsOpWithin seq)
   pub over : IfSome given (λ op. (names : List SeqName) → IsOver names seq → IsOpOver names op)
 

@@ -3,6 +3,7 @@ mod CapFacts
 mod CursorFacts
 pub mod ListFacts
 mod MarkFacts
+mod OperationSizes
 mod PlaceFacts
 mod RemainderFacts
 mod RunFacts
@@ -12,4 +13,3 @@ mod TopLoopFacts
 pub mod TreeFacts
 mod TurnFacts
 mod TurnedFrames
-mod UnrolledSizes

@@ -4,7 +4,7 @@ use Rattle.std.specs.Prelude.{slice_get}
 use Rattle.std.specs.List.{All, flat_map, range_with_len}
 use Rattle.std.proofs.lemmas.List.Elements.{All-append, All-nil}
 use Rattle.std.proofs.lemmas.Option.{get_or_from_slice_get, slice_get-get_or, slice_get_within}
-use Rattle.cpl_sequence.specs.Unrolled.{iterations}
+use Rattle.cpl_sequence.specs.Operations.{iterations}
 use Rattle.cpl_sequence.specs.declared.op.Op.{Op}
 use Rattle.cpl_sequence.proofs.TreeFacts.{Every}
 

@@ -8,11 +8,11 @@ use Rattle.std.proofs.lemmas.Grind.{flat_map-append}
 use Rattle.std.proofs.lemmas.List.{drop_all, drop_more, length-map, take-append-drop, take_more}
 use Rattle.std.proofs.lemmas.Nat.{div-add-mod', div_below, mod_below}
 use Rattle.std.proofs.Math.Nat.{div-mul-le_self, mod-eq_of_lt, mod-le, mul-le-mul_right}
-use Rattle.cpl_sequence.specs.Marks.{AreRising, IsLastUpTo, body_marks, loop_tally, marks_behind, marks_of_tops, most, tally_of, tally_of_top}
+use Rattle.cpl_sequence.specs.Marks.{AreRising, IsLastUpTo, body_marks, loop_tally, marks_behind, marks_of_tops, greatest_count, tally_of, tally_of_top}
 use Rattle.cpl_sequence.specs.Places.{IsAtBody, IsAtElement, IsAtTop, IsPlaced}
 use Rattle.cpl_sequence.specs.Sequence.{Sequence}
 use Rattle.cpl_sequence.specs.Sound.{IsSound, is_timed}
-use Rattle.cpl_sequence.specs.Unrolled.{iterations, unroll, unroll_all, unroll_top, unrolled}
+use Rattle.cpl_sequence.specs.Operations.{iterations, element_ops, body_ops, top_ops, operations_of}
 use Rattle.cpl_sequence.specs.declared.element.Element.{Element}
 use Rattle.cpl_sequence.specs.declared.element.Element.TheVariants.{Loop as LoopVariant}
 use Rattle.cpl_sequence.specs.declared.element.TopLoop.{TopLoop}
@@ -24,8 +24,8 @@ use Rattle.cpl_sequence.proofs.ListFacts.{slice_get-append_left, slice_get-appen
 use Rattle.cpl_sequence.proofs.MarkFacts.{IsCounted, body_marks-count, length-marks_behind, marks_behind-before, marks_behind-by, marks_behind-rising, tally_of-Loop, tally_of-counted, tally_of_top-counted}
 use Rattle.cpl_sequence.proofs.SoundFacts.{inner_at, list_all-get_or}
 use Rattle.cpl_sequence.proofs.TopLoopFacts.{top_at, top_from}
-use Rattle.cpl_sequence.proofs.TreeFacts.{Every, at_Loop, every_all, unroll-Loop}
-use Rattle.cpl_sequence.proofs.UnrolledSizes.{length-iterations, length-unroll_all}
+use Rattle.cpl_sequence.proofs.TreeFacts.{Every, at_Loop, every_all, element_ops-Loop}
+use Rattle.cpl_sequence.proofs.OperationSizes.{length-iterations, length-body_ops}
 
 -- ---- one of several members
 
@@ -54,12 +54,12 @@ before_next operations xs place x inside is =
     omega (arith, ap length split, length-append (flat_map operations (take place xs)) (operations x ++ []), length-append (operations x) [])
 
 -- an operation is one of the last member before which at most so many stand
-pub placed : {A : Type 0} (tally : A → Tally) (operations : A → List Op) (xs : List A) (k place : ℕ) (x : A) (mark : Mark) → Every (IsCounted tally operations) xs → k < length (flat_map operations xs) → k < most → IsLastUpTo (marks_behind 0 (map tally xs)) k place → place < length xs → x ≡ get_or xs place x → mark ≡ get_or (marks_behind 0 (map tally xs)) place mark → ((out-Mark mark).before ≤ k) × IsPlaced operations xs k (k - (out-Mark mark).before) x
+pub placed : {A : Type 0} (tally : A → Tally) (operations : A → List Op) (xs : List A) (k place : ℕ) (x : A) (mark : Mark) → Every (IsCounted tally operations) xs → k < length (flat_map operations xs) → k < greatest_count → IsLastUpTo (marks_behind 0 (map tally xs)) k place → place < length xs → x ≡ get_or xs place x → mark ≡ get_or (marks_behind 0 (map tally xs)) place mark → ((out-Mark mark).before ≤ k) × IsPlaced operations xs k (k - (out-Mark mark).before) x
 placed tally operations xs k place x mark each below small last inside is mark_is =
     let marks = marks_behind 0 (map tally xs) in
     let n = length (flat_map operations (take place xs)) in
     let behind = flat_map operations (drop (place + 1) xs) in
-    let before : (out-Mark mark).before ≡ min (0 + n) most = ap (λ m. (out-Mark m).before) mark_is ∙ marks_behind-before tally operations 0 xs place mark (omega arith) each inside in
+    let before : (out-Mark mark).before ≡ min (0 + n) greatest_count = ap (λ m. (out-Mark m).before) mark_is ∙ marks_behind-before tally operations 0 xs place mark (omega arith) each inside in
     let here : (out-Mark mark).before ≤ k = rw (ap (λ m. (out-Mark m).before) mark_is) (last.here mark) in
     let exact : (out-Mark mark).before ≡ n = omega arith in
     let split = split_at operations xs place x inside is in
@@ -115,11 +115,11 @@ div-below : (k n : ℕ) → k < n → k / n ≡ 0
 div-below k n below = let less : k / n < 1 = div_below k n 1 (omega arith) (omega arith) in omega arith
 
 -- division by a capped number
-capped-division : (k size round : ℕ) → round ≡ min size most → 0 < size → k < most → (0 < round) × (k / round ≡ k / size) × (k % round ≡ k % size)
-capped-division k size round is some small = elim (cases_lt size most) [
+capped-division : (k size round : ℕ) → round ≡ min size greatest_count → 0 < size → k < greatest_count → (0 < round) × (k / round ≡ k / size) × (k % round ≡ k % size)
+capped-division k size round is some small = elim (cases_lt size greatest_count) [
   | inl fits ↦ let same : round ≡ size = omega arith in (omega arith, ap (λ n. k / n) same, ap (λ n. k % n) same)
   | inr over ↦
-      let same : round ≡ most = omega arith in
+      let same : round ≡ greatest_count = omega arith in
       let less : k < round = omega arith in
       let below : k < size = omega arith in
       (omega arith, div-below k round less ∙ sym (div-below k size below), mod-eq_of_lt less ∙ sym (mod-eq_of_lt below))
@@ -129,16 +129,16 @@ capped-division k size round is some small = elim (cases_lt size most) [
 pub record IsIterated (body : List Element) (step duration time k round : ℕ) : Type 0 where
   pub some : 0 < round
   pub fits : (k / round) * step + step ≤ duration
-  pub below : k % round < length (unroll_all body (time + (k / round) * step) step)
-  pub small : k % round < most
-  pub same : slice_get (iterations (λ start. unroll_all body start step) step duration time) k ≡ slice_get (unroll_all body (time + (k / round) * step) step) (k % round)
+  pub below : k % round < length (body_ops body (time + (k / round) * step) step)
+  pub small : k % round < greatest_count
+  pub same : slice_get (iterations (λ start. body_ops body start step) step duration time) k ≡ slice_get (body_ops body (time + (k / round) * step) step) (k % round)
 
 -- each operation of a loop is one of an iteration
-iterated : (body : List Element) (step duration time k round : ℕ) → round ≡ (body_marks body step).count → k < length (iterations (λ start. unroll_all body start step) step duration time) → k < most → IsIterated body step duration time k round
+iterated : (body : List Element) (step duration time k round : ℕ) → round ≡ (body_marks body step).count → k < length (iterations (λ start. body_ops body start step) step duration time) → k < greatest_count → IsIterated body step duration time k round
 iterated body step duration time k round round_is below small =
-    let size = length (unroll_all body 0 step) in
-    let each = λ (start : ℕ). length-unroll_all body start step ∙ sym (length-unroll_all body 0 step) in
-    let inside : k < (duration / step) * size = rw (← length-iterations (λ start. unroll_all body start step) size each step duration time) below in
+    let size = length (body_ops body 0 step) in
+    let each = λ (start : ℕ). length-body_ops body start step ∙ sym (length-body_ops body 0 step) in
+    let inside : k < (duration / step) * size = rw (← length-iterations (λ start. body_ops body start step) size each step duration time) below in
     let some : 0 < size = some_factor (duration / step) size k inside in
     let number : k / size < duration / step = div_below k size (duration / step) some inside in
     let capped = capped-division k size round (round_is ∙ body_marks-count body 0 step) some small in
@@ -147,7 +147,7 @@ iterated body step duration time k round round_is below small =
       fits = rw capped.1 (omega (arith, mul-le-mul_right step (let h : suc (k / size) ≤ duration / step = omega arith in h), div-mul-le_self duration step));
       below = rw (capped.2, each (time + (k / round) * step)) (mod_below k size some);
       small = rw capped.2 (omega (arith, mod-le k size));
-      same = rw (capped.1, capped.2) (get-iterations (λ start. unroll_all body start step) size step duration time k each inside);
+      same = rw (capped.1, capped.2) (get-iterations (λ start. body_ops body start step) size step duration time k each inside);
     }
 
 -- ---- down the tree
@@ -156,11 +156,11 @@ iterated body step duration time k round round_is below small =
 pub record IsOfElement (body : List Element) (element : Element) (mark : Mark) (time step k : ℕ) : Type 0 where
   pub early : (out-Mark mark).before ≤ k
   pub at : IsAtElement element mark time step (k - (out-Mark mark).before)
-  pub same : slice_get (unroll_all body time step) k ≡ slice_get (unroll element time step) (k - (out-Mark mark).before)
+  pub same : slice_get (body_ops body time step) k ≡ slice_get (element_ops element time step) (k - (out-Mark mark).before)
 
 -- the marks of a body rise
 pub body-rising : (body : List Element) (marks : List Mark) (time step k : ℕ) → IsAtBody body marks time step k → AreRising marks
-body-rising body marks time step k at = rw at.marked (rising (λ e. tally_of e step) (λ e. unroll e time step) body k at.below)
+body-rising body marks time step k at = rw at.marked (rising (λ e. tally_of e step) (λ e. element_ops e time step) body k at.below)
 
 -- there are as many as elements
 pub body-inside : (body : List Element) (marks : List Mark) (time step k place : ℕ) → IsAtBody body marks time step k → place < length marks → place < length body
@@ -174,7 +174,7 @@ body-element body marks time step k place element mark at last is mark_is =
     let inside = body-inside body marks time step k place at last.inside in
     let mark_at : mark ≡ get_or (marks_behind 0 (map tally body)) place mark = mark_is ∙ ap (λ ms. get_or ms place mark) at.marked in
     let there : IsLastUpTo (marks_behind 0 (map tally body)) k place = rw (← at.marked) last in
-    let found = placed tally (λ e. unroll e time step) body k place element mark (every_all _ (λ e. tally_of-counted e time step) body) at.below at.small there inside is mark_at in
+    let found = placed tally (λ e. element_ops e time step) body k place element mark (every_all _ (λ e. tally_of-counted e time step) body) at.below at.small there inside is mark_at in
     record {
       early = found.0;
       at = record {
@@ -192,13 +192,13 @@ body-element body marks time step k place element mark at last is mark_is =
 pub record IsOfBody (element : Element) (body : List Element) (mark : Mark) (inner time step k : ℕ) : Type 0 where
   pub some : 0 < (out-Mark mark).round
   pub at : IsAtBody body (out-Mark mark).body (time + (k / (out-Mark mark).round) * inner) inner (k % (out-Mark mark).round)
-  pub same : slice_get (unroll element time step) k ≡ slice_get (unroll_all body (time + (k / (out-Mark mark).round) * inner) inner) (k % (out-Mark mark).round)
+  pub same : slice_get (element_ops element time step) k ≡ slice_get (body_ops body (time + (k / (out-Mark mark).round) * inner) inner) (k % (out-Mark mark).round)
 
 -- each operation of a loop in a loop is one of its body
 pub element-body : (element : Element) (inner duration : ℕ) (body : List Element) (mark : Mark) (time step k : ℕ) → element ≡ LoopVariant inner duration body → IsAtElement element mark time step k → IsOfBody element body mark inner time step k
 element-body element inner duration body mark time step k is at =
     let sound = inner_at element inner duration body step is at.timed in
-    let same : unroll element time step ≡ iterations (λ start. unroll_all body start inner) inner duration time = ap (λ x. unroll x time step) (at_Loop element inner duration body is) ∙ unroll-Loop inner duration body time step in
+    let same : element_ops element time step ≡ iterations (λ start. body_ops body start inner) inner duration time = ap (λ x. element_ops x time step) (at_Loop element inner duration body is) ∙ element_ops-Loop inner duration body time step in
     let tally : tally_of element step ≡ loop_tally inner duration (body_marks body inner) = ap (λ x. tally_of x step) (at_Loop element inner duration body is) ∙ tally_of-Loop inner duration body step in
     let it = iterated body inner duration time k (out-Mark mark).round (at.marked.round_is ∙ ap (λ t. t.round) tally) (rw (← same) at.below) at.small in
     record {
@@ -218,7 +218,7 @@ element-body element inner duration body mark time step k is at =
 pub record IsOfTopBody (top : TopLoop) (mark : Mark) (k : ℕ) : Type 0 where
   pub some : 0 < (out-Mark mark).round
   pub at : IsAtBody top.body (out-Mark mark).body (top.begin + (k / (out-Mark mark).round) * top.step) top.step (k % (out-Mark mark).round)
-  pub same : slice_get (unroll_top top) k ≡ slice_get (unroll_all top.body (top.begin + (k / (out-Mark mark).round) * top.step) top.step) (k % (out-Mark mark).round)
+  pub same : slice_get (top_ops top) k ≡ slice_get (body_ops top.body (top.begin + (k / (out-Mark mark).round) * top.step) top.step) (k % (out-Mark mark).round)
 
 -- each operation of a top loop is one of its body
 pub top-body : (top : TopLoop) (mark : Mark) (k : ℕ) → IsAtTop top mark k → IsOfTopBody top mark k
@@ -264,11 +264,11 @@ pub record IsSought (seq : Sequence) (loops : List TopLoop) (marks : List Mark) 
   pub sound : IsSound seq
   pub loops_are : loops ≡ seq.loops
   pub marks_are : marks ≡ (marks_of_tops seq.loops).marks
-  pub below : k < min (length (unrolled seq)) most
+  pub below : k < min (length (operations_of seq)) greatest_count
 
 -- the marks of its loops rise
-pub tops-rising : (seq : Sequence) (marks : List Mark) (k : ℕ) → marks ≡ (marks_of_tops seq.loops).marks → k < min (length (unrolled seq)) most → AreRising marks
-tops-rising seq marks k is below = rw is (rising tally_of_top unroll_top seq.loops k (omega arith))
+pub tops-rising : (seq : Sequence) (marks : List Mark) (k : ℕ) → marks ≡ (marks_of_tops seq.loops).marks → k < min (length (operations_of seq)) greatest_count → AreRising marks
+tops-rising seq marks k is below = rw is (rising tally_of_top top_ops seq.loops k (omega arith))
 
 -- there are as many as loops
 pub tops-inside : (seq : Sequence) (loops : List TopLoop) (marks : List Mark) (place : ℕ) → loops ≡ seq.loops → marks ≡ (marks_of_tops seq.loops).marks → place < length marks → place < length loops
@@ -279,7 +279,7 @@ tops-inside seq loops marks place loops_are is inside =
 pub record IsOfTop (seq : Sequence) (top : TopLoop) (mark : Mark) (k : ℕ) : Type 0 where
   pub early : (out-Mark mark).before ≤ k
   pub at : IsAtTop top mark (k - (out-Mark mark).before)
-  pub same : slice_get (unrolled seq) k ≡ slice_get (unroll_top top) (k - (out-Mark mark).before)
+  pub same : slice_get (operations_of seq) k ≡ slice_get (top_ops top) (k - (out-Mark mark).before)
 
 -- the search finds the loop
 pub tops-top : (seq : Sequence) (loops : List TopLoop) (marks : List Mark) (k place : ℕ) (top : TopLoop) (mark : Mark) → IsSought seq loops marks k → IsLastUpTo marks k place → top ≡ get_or loops place top → mark ≡ get_or marks place mark → IsOfTop seq top mark k
@@ -290,7 +290,7 @@ tops-top seq loops marks k place top mark sought last is mark_is =
     let mark_at : mark ≡ get_or (marks_behind 0 (map tally_of_top seq.loops)) place mark = mark_is ∙ ap (λ ms. get_or ms place mark) sought.marks_are in
     let there : IsLastUpTo (marks_behind 0 (map tally_of_top seq.loops)) k place = rw (← sought.marks_are) last in
     let few = sought.below in
-    let found = placed tally_of_top unroll_top seq.loops k place top mark (every_all _ tally_of_top-counted seq.loops) (omega arith) (omega arith) there within top_is mark_at in
+    let found = placed tally_of_top top_ops seq.loops k place top mark (every_all _ tally_of_top-counted seq.loops) (omega arith) (omega arith) there within top_is mark_at in
     let fits = top_at seq loops place top sought.loops_are sought.sound inside is in
     record {
       early = found.0;

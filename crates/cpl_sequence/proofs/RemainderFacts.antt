@@ -10,15 +10,15 @@ use Rattle.std.proofs.lemmas.Option.{slice_get_within, get_or_from_slice_get}
 use Rattle.cpl_sequence.specs.Remainder.{FitsElement, FitsLoop, FitsStep, remainder_of, remainder_at, remainder_step, start_frame}
 use Rattle.cpl_sequence.specs.Sound.{is_nested, is_substep, is_timed}
 use Rattle.cpl_sequence.specs.Turns.{start_frames}
-use Rattle.cpl_sequence.specs.Unrolled.{iterations, run_ops, unroll, unroll_all, up_to}
+use Rattle.cpl_sequence.specs.Operations.{iterations, run_ops, element_ops, body_ops, numbers_below}
 use Rattle.cpl_sequence.specs.declared.element.Element.{Element, roll-Element}
 use Rattle.cpl_sequence.specs.declared.element.Element.TheOpen.{Element-F, Link, Run, Loop}
 use Rattle.cpl_sequence.specs.declared.element.Element.TheViews.{out-roll-Element}
 use Rattle.cpl_sequence.specs.declared.frame.Frame.{Frame}
 use Rattle.cpl_sequence.specs.declared.op.Op.{Op}
-use Rattle.cpl_sequence.proofs.UnrolledSizes.{length-run_ops}
+use Rattle.cpl_sequence.proofs.OperationSizes.{length-run_ops}
 use Rattle.cpl_sequence.proofs.SoundFacts.{IsLoop, inner_from, list_all-get_or, part_from}
-use Rattle.cpl_sequence.proofs.TreeFacts.{induction, is_nested-Loop, is_nested-Loop_zero, is_timed-Run, unroll-Link, unroll-Loop, unroll-Run}
+use Rattle.cpl_sequence.proofs.TreeFacts.{induction, is_nested-Loop, is_nested-Loop_zero, is_timed-Run, element_ops-Link, element_ops-Loop, element_ops-Run}
 
 -- what is left of a rolled element is what is left of its layer
 pub remainder_of-roll : (frame : Frame) (frames : List Frame) (x : Element-F Element) (time step : ℕ) → remainder_of (frame ∷ frames) (roll-Element x) time step ≡ remainder_step frame (remainder_of frames) x time step
@@ -36,7 +36,7 @@ pub record IsReady (levels : ℕ) (e : Element) (step : ℕ) : Type 0 where
 
 -- frames at their beginning leave all of an element
 pub record IsStarted (frames : List Frame) (e : Element) (step : ℕ) : Type 0 where
-  pub all : (time : ℕ) → remainder_of frames e time step ≡ unroll e time step
+  pub all : (time : ℕ) → remainder_of frames e time step ≡ element_ops e time step
   pub fits : FitsElement frames e step
 
 -- lists behind the place of a member, that member first
@@ -44,20 +44,20 @@ pub drop_get : {A : Type 0} (xs : List A) (n : ℕ) (x : A) → slice_get xs n �
 drop_get xs n x got = drop_more xs n x (slice_get_within xs n x got) ∙ ap (λ y. y ∷ drop (n + 1) xs) (get_or_from_slice_get xs n x x got)
 
 -- the rest of a body, from an element on that is whole
-pub left_from : (frames : List Frame) (body : List Element) (place : ℕ) (e : Element) (now step : ℕ) → slice_get body place ≡ Some e → remainder_of frames e now step ≡ unroll e now step → (remainder_of frames e now step ++ []) ++ unroll_all (drop (place + 1) body) now step ≡ unroll_all (drop place body) now step
+pub left_from : (frames : List Frame) (body : List Element) (place : ℕ) (e : Element) (now step : ℕ) → slice_get body place ≡ Some e → remainder_of frames e now step ≡ element_ops e now step → (remainder_of frames e now step ++ []) ++ body_ops (drop (place + 1) body) now step ≡ body_ops (drop place body) now step
 left_from frames body place e now step got whole =
-    ap (λ ops. ops ++ unroll_all (drop (place + 1) body) now step) (append-nil (remainder_of frames e now step) ∙ whole)
-    ∙ ap (λ es. unroll_all es now step) (sym (drop_get body place e got))
+    ap (λ ops. ops ++ body_ops (drop (place + 1) body) now step) (append-nil (remainder_of frames e now step) ∙ whole)
+    ∙ ap (λ es. body_ops es now step) (sym (drop_get body place e got))
 
 -- the later iterations of a loop, the next one first
-pub later_more : (body : ℕ → List Op) (count round : ℕ) → round < count → flat_map body (drop round (up_to count)) ≡ body round ++ flat_map body (drop (round + 1) (up_to count))
+pub later_more : (body : ℕ → List Op) (count round : ℕ) → round < count → flat_map body (drop round (numbers_below count)) ≡ body round ++ flat_map body (drop (round + 1) (numbers_below count))
 later_more body count round inside =
-    ap (flat_map body) (drop_more (up_to count) round 0 (omega (arith, length-range_with_len 0 count)))
-    ∙ ap (λ n. body n ++ flat_map body (drop (round + 1) (up_to count))) (get_or-range_with_len 0 count round 0 inside ∙ zero-add round)
+    ap (flat_map body) (drop_more (numbers_below count) round 0 (omega (arith, length-range_with_len 0 count)))
+    ∙ ap (λ n. body n ++ flat_map body (drop (round + 1) (numbers_below count))) (get_or-range_with_len 0 count round 0 inside ∙ zero-add round)
 
 -- past the last there are none
-pub later_none : (body : ℕ → List Op) (count round : ℕ) → count ≤ round → flat_map body (drop round (up_to count)) ≡ []
-later_none body count round past = ap (flat_map body) (drop_all round (up_to count) (omega (arith, length-range_with_len 0 count)))
+pub later_none : (body : ℕ → List Op) (count round : ℕ) → count ≤ round → flat_map body (drop round (numbers_below count)) ≡ []
+later_none body count round past = ap (flat_map body) (drop_all round (numbers_below count) (omega (arith, length-range_with_len 0 count)))
 
 -- a part of a step stands in it at least once
 part_once : (part step : ℕ) → 0 < part → step % part ≡ 0 → 0 < step → 0 < step / part
@@ -76,9 +76,9 @@ runs_some component phase time (Some substep) step parted some =
     omega (arith, length-run_ops component phase time step (Some substep), part_once substep step part.some part.exact some)
 
 -- what is left of a loop, at the element at which its frame stands
-pub loop_left : (frame : Frame) (frames : List Frame) (step duration : ℕ) (body : List Element) (time : ℕ) (e : Element) → slice_get body frame.place ≡ Some e → remainder_at frame (remainder_of frames) step duration body time ≡ ((remainder_of frames e (time + frame.round * step) step ++ []) ++ unroll_all (drop (frame.place + 1) body) (time + frame.round * step) step) ++ flat_map (λ n. unroll_all body (time + n * step) step) (drop (frame.round + 1) (up_to (duration / step)))
+pub loop_left : (frame : Frame) (frames : List Frame) (step duration : ℕ) (body : List Element) (time : ℕ) (e : Element) → slice_get body frame.place ≡ Some e → remainder_at frame (remainder_of frames) step duration body time ≡ ((remainder_of frames e (time + frame.round * step) step ++ []) ++ body_ops (drop (frame.place + 1) body) (time + frame.round * step) step) ++ flat_map (λ n. body_ops body (time + n * step) step) (drop (frame.round + 1) (numbers_below (duration / step)))
 loop_left frame frames step duration body time e got =
-    ap (λ o. (flat_map (λ x. remainder_of frames x (time + frame.round * step) step) (option_to_list o) ++ unroll_all (drop (frame.place + 1) body) (time + frame.round * step) step) ++ flat_map (λ n. unroll_all body (time + n * step) step) (drop (frame.round + 1) (up_to (duration / step)))) got
+    ap (λ o. (flat_map (λ x. remainder_of frames x (time + frame.round * step) step) (option_to_list o) ++ body_ops (drop (frame.place + 1) body) (time + frame.round * step) step) ++ flat_map (λ n. body_ops body (time + n * step) step) (drop (frame.round + 1) (numbers_below (duration / step)))) got
 
 -- a frame fits a loop, where the frames below fit the element at which it stands
 pub loop_fits : (frame : Frame) (frames : List Frame) (step duration : ℕ) (body : List Element) (e : Element) → slice_get body frame.place ≡ Some e → frame.round < duration / step → FitsElement frames e step → FitsLoop frame (FitsElement frames) step duration body
@@ -86,35 +86,35 @@ loop_fits frame frames step duration body e got round fits =
     (round, subst (λ o. MatchOption o ⊥ (λ x. FitsElement frames x step)) (sym got) fits)
 
 -- frames at the beginning of a round, or behind an element of it, leave all from there on
-pub loop_left_from : (frame : Frame) (frames : List Frame) (step duration : ℕ) (body : List Element) (time : ℕ) (e : Element) → slice_get body frame.place ≡ Some e → remainder_of frames e (time + frame.round * step) step ≡ unroll e (time + frame.round * step) step → remainder_at frame (remainder_of frames) step duration body time ≡ unroll_all (drop frame.place body) (time + frame.round * step) step ++ flat_map (λ n. unroll_all body (time + n * step) step) (drop (frame.round + 1) (up_to (duration / step)))
+pub loop_left_from : (frame : Frame) (frames : List Frame) (step duration : ℕ) (body : List Element) (time : ℕ) (e : Element) → slice_get body frame.place ≡ Some e → remainder_of frames e (time + frame.round * step) step ≡ element_ops e (time + frame.round * step) step → remainder_at frame (remainder_of frames) step duration body time ≡ body_ops (drop frame.place body) (time + frame.round * step) step ++ flat_map (λ n. body_ops body (time + n * step) step) (drop (frame.round + 1) (numbers_below (duration / step)))
 loop_left_from frame frames step duration body time e got whole =
     loop_left frame frames step duration body time e got
-    ∙ ap (λ ops. ops ++ flat_map (λ n. unroll_all body (time + n * step) step) (drop (frame.round + 1) (up_to (duration / step)))) (left_from frames body frame.place e (time + frame.round * step) step got whole)
+    ∙ ap (λ ops. ops ++ flat_map (λ n. body_ops body (time + n * step) step) (drop (frame.round + 1) (numbers_below (duration / step)))) (left_from frames body frame.place e (time + frame.round * step) step got whole)
 
 -- a link at its beginning
 started_Link : (frames : List Frame) (link step : ℕ) → IsStarted (start_frame ∷ frames) (roll-Element (Link link)) step
 started_Link frames link step = record {
-  all = λ time. remainder_of-roll start_frame frames (Link link) time step ∙ sym (unroll-Link link time step);
+  all = λ time. remainder_of-roll start_frame frames (Link link) time step ∙ sym (element_ops-Link link time step);
   fits = fits-roll start_frame frames (Link link) step tt;
 }
 
 -- a run
 started_Run : (frames : List Frame) (component phase : ℕ) (substep : Option ℕ) (step : ℕ) → is_substep substep step ≡ true → 0 < step → IsStarted (start_frame ∷ frames) (roll-Element (Run component phase substep)) step
 started_Run frames component phase substep step parted some = record {
-  all = λ time. remainder_of-roll start_frame frames (Run component phase substep) time step ∙ sym (unroll-Run component phase substep time step);
+  all = λ time. remainder_of-roll start_frame frames (Run component phase substep) time step ∙ sym (element_ops-Run component phase substep time step);
   fits = fits-roll start_frame frames (Run component phase substep) step (runs_some component phase 0 substep step parted some);
 }
 
 -- the first round of a loop
-pub started_loop : (frames : List Frame) (step duration : ℕ) (body : List Element) (time : ℕ) (e : Element) → 0 < duration / step → slice_get body 0 ≡ Some e → IsStarted frames e step → remainder_at start_frame (remainder_of frames) step duration body time ≡ iterations (λ now. unroll_all body now step) step duration time
+pub started_loop : (frames : List Frame) (step duration : ℕ) (body : List Element) (time : ℕ) (e : Element) → 0 < duration / step → slice_get body 0 ≡ Some e → IsStarted frames e step → remainder_at start_frame (remainder_of frames) step duration body time ≡ iterations (λ now. body_ops body now step) step duration time
 started_loop frames step duration body time e rounds got begun =
     loop_left_from start_frame frames step duration body time e got (begun.all (time + 0 * step))
-    ∙ sym (later_more (λ n. unroll_all body (time + n * step) step) (duration / step) 0 rounds)
+    ∙ sym (later_more (λ n. body_ops body (time + n * step) step) (duration / step) 0 rounds)
 
 -- a loop
 started_Loop : (frames : List Frame) (inner duration : ℕ) (body : List Element) (step : ℕ) (e : Element) → 0 < duration / inner → slice_get body 0 ≡ Some e → IsStarted frames e inner → IsStarted (start_frame ∷ frames) (roll-Element (Loop inner duration body)) step
 started_Loop frames inner duration body step e rounds got begun = record {
-  all = λ time. remainder_of-roll start_frame frames (Loop inner duration body) time step ∙ started_loop frames inner duration body time e rounds got begun ∙ sym (unroll-Loop inner duration body time step);
+  all = λ time. remainder_of-roll start_frame frames (Loop inner duration body) time step ∙ started_loop frames inner duration body time e rounds got begun ∙ sym (element_ops-Loop inner duration body time step);
   fits = fits-roll start_frame frames (Loop inner duration body) step (loop_fits start_frame frames inner duration body e got rounds begun.fits);
 }
 

@@ -7,9 +7,9 @@ use Rattle.std.specs.Option.{option_map}
 use Rattle.std.proofs.lemmas.List.FromFn.{get_or-range_with_len, length-range_with_len}
 use Rattle.std.proofs.Math.Nat.{div-mul-le_self, div_self, mul-le-mul_right}
 use Rattle.cpl_sequence.specs.Sound.{is_substep}
-use Rattle.cpl_sequence.specs.Unrolled.{run_ops}
+use Rattle.cpl_sequence.specs.Operations.{run_ops}
 use Rattle.cpl_sequence.specs.declared.op.Op.TheVariants.{Run as RunOp}
-use Rattle.cpl_sequence.proofs.UnrolledSizes.{length-run_ops}
+use Rattle.cpl_sequence.proofs.OperationSizes.{length-run_ops}
 use Rattle.cpl_sequence.proofs.SoundFacts.{part_from}
 
 -- the k-th part of a step

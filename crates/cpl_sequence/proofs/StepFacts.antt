@@ -8,7 +8,7 @@ use Rattle.std.proofs.Math.Nat.{div-le_self, div-mul-le_self, div_self, mul-le-m
 use Rattle.cpl_sequence.specs.Remainder.{FitsElement, FitsIn, FitsStep, start_frame}
 use Rattle.cpl_sequence.specs.Sound.{is_loop, is_nested, is_timed}
 use Rattle.cpl_sequence.specs.Turns.{StepsElement, StepsLoop, turn_of}
-use Rattle.cpl_sequence.specs.Unrolled.{run_ops}
+use Rattle.cpl_sequence.specs.Operations.{run_ops}
 use Rattle.cpl_sequence.specs.declared.element.Element.{Element, out-Element, roll-Element}
 use Rattle.cpl_sequence.specs.declared.element.Element.TheOpen.{Run, Loop}
 use Rattle.cpl_sequence.specs.declared.element.Element.TheVariants.{Link as LinkVariant, Run as RunVariant, Loop as LoopVariant}
@@ -19,8 +19,8 @@ use Rattle.cpl_sequence.specs.declared.frame.Turn.{Turn}
 use Rattle.cpl_sequence.specs.declared.op.Op.{Op}
 use Rattle.cpl_sequence.specs.declared.op.Op.TheVariants.{Link as LinkOp}
 use Rattle.cpl_sequence.proofs.RemainderFacts.{IsBody}
-use Rattle.cpl_sequence.proofs.UnrolledSizes.{length-run_ops}
-use Rattle.cpl_sequence.specs.Marks.{runs}
+use Rattle.cpl_sequence.proofs.OperationSizes.{length-run_ops}
+use Rattle.cpl_sequence.specs.Marks.{run_count}
 use Rattle.cpl_sequence.proofs.SoundFacts.{inner_at, list_all-get_or, loop_from}
 use Rattle.cpl_sequence.proofs.TurnFacts.{IsStanding, step_in, step_Link, step_Loop, step_Run}
 use Rattle.cpl_sequence.proofs.TreeFacts.{at_Link, at_Loop, at_Run, is_nested-Loop, is_nested-Loop_zero}
@@ -47,7 +47,7 @@ round_Run (frame ∷ frames) e component phase substep time step is fits =
     rw (length-run_ops component phase time step substep, ← length-run_ops component phase 0 step substep) here
 
 -- there are no more than seconds in the step
-runs_few : (substep : Option ℕ) (step : ℕ) → 0 < step → runs substep step ≤ step
+runs_few : (substep : Option ℕ) (step : ℕ) → 0 < step → run_count substep step ≤ step
 runs_few None step some = omega arith
 runs_few (Some substep) step some = div-le_self step substep
 
@@ -57,7 +57,7 @@ round_few frames e component phase substep step is fits some =
     omega (arith, round_Run frames e component phase substep 0 step is fits, length-run_ops component phase 0 step substep, runs_few substep step some)
 
 -- how many there are, by division
-runs_by : (substep : Option ℕ) (step : ℕ) → 0 < step → runs substep step ≡ step / unwrap_or substep step
+runs_by : (substep : Option ℕ) (step : ℕ) → 0 < step → run_count substep step ≡ step / unwrap_or substep step
 runs_by None step some = sym (div_self some)
 runs_by (Some substep) step some = refl
 

@@ -4,7 +4,7 @@ use Rattle.std.specs.Prelude.{⊤, false}
 use Rattle.std.specs.List.{flat_map, list_all}
 use Rattle.std.proofs.lemmas.List.{length-map}
 use Rattle.cpl_sequence.specs.Sound.{is_loop, is_part, is_substep, is_timed, timed_step, is_nested, nested_step}
-use Rattle.cpl_sequence.specs.Unrolled.{iterations, run_ops, unroll, unroll_all, unroll_step}
+use Rattle.cpl_sequence.specs.Operations.{iterations, run_ops, element_ops, body_ops, element_ops_step}
 use Rattle.cpl_sequence.specs.declared.element.Element.{Element, roll-Element}
 use Rattle.cpl_sequence.specs.declared.element.Element.TheOpen.{Link, Run, Loop}
 use Rattle.cpl_sequence.specs.declared.element.Element.TheFolds.{fold-Element, fold-roll-Element, ind-Element}
@@ -51,18 +51,18 @@ list_all-map p g [] = refl
 list_all-map p g (x ∷ xs) = ap (λ b. p (g x) && b) (list_all-map p g xs)
 
 -- the operations of a link
-pub unroll-Link : (link time step : ℕ) → unroll (roll-Element (Link link)) time step ≡ LinkOp link false ∷ []
-unroll-Link link time step = ap (λ f. f time step) (fold-roll-Element (ℕ → ℕ → List Op) unroll_step (Link link))
+pub element_ops-Link : (link time step : ℕ) → element_ops (roll-Element (Link link)) time step ≡ LinkOp link false ∷ []
+element_ops-Link link time step = ap (λ f. f time step) (fold-roll-Element (ℕ → ℕ → List Op) element_ops_step (Link link))
 
 -- those of a run
-pub unroll-Run : (component phase : ℕ) (substep : Option ℕ) (time step : ℕ) → unroll (roll-Element (Run component phase substep)) time step ≡ run_ops component phase time step substep
-unroll-Run component phase substep time step = ap (λ f. f time step) (fold-roll-Element (ℕ → ℕ → List Op) unroll_step (Run component phase substep))
+pub element_ops-Run : (component phase : ℕ) (substep : Option ℕ) (time step : ℕ) → element_ops (roll-Element (Run component phase substep)) time step ≡ run_ops component phase time step substep
+element_ops-Run component phase substep time step = ap (λ f. f time step) (fold-roll-Element (ℕ → ℕ → List Op) element_ops_step (Run component phase substep))
 
 -- those of a loop
-pub unroll-Loop : (inner duration : ℕ) (body : List Element) (time step : ℕ) → unroll (roll-Element (Loop inner duration body)) time step ≡ iterations (λ start. unroll_all body start inner) inner duration time
-unroll-Loop inner duration body time step =
-    ap (λ f. f time step) (fold-roll-Element (ℕ → ℕ → List Op) unroll_step (Loop inner duration body))
-    ∙ (λ j. iterations (λ start. flat_map-map (λ ops. ops start inner) unroll body j) inner duration time)
+pub element_ops-Loop : (inner duration : ℕ) (body : List Element) (time step : ℕ) → element_ops (roll-Element (Loop inner duration body)) time step ≡ iterations (λ start. body_ops body start inner) inner duration time
+element_ops-Loop inner duration body time step =
+    ap (λ f. f time step) (fold-roll-Element (ℕ → ℕ → List Op) element_ops_step (Loop inner duration body))
+    ∙ (λ j. iterations (λ start. flat_map-map (λ ops. ops start inner) element_ops body j) inner duration time)
 
 -- whether a run's times fit
 pub is_timed-Run : (component phase : ℕ) (substep : Option ℕ) (step : ℕ) → is_timed (roll-Element (Run component phase substep)) step ≡ is_substep substep step

@@ -7,7 +7,7 @@ use Rattle.std.proofs.lemmas.Bool.{cases_lt, le-ltb, lt-ltb}
 use Rattle.std.proofs.lemmas.List.{drop_all}
 use Rattle.cpl_sequence.specs.Remainder.{FitsElement, FitsIn, remainder_in, remainder_of}
 use Rattle.cpl_sequence.specs.Turns.{StepsElement, StepsLoop, next_frame, start_frames, turn_of, turned_frames}
-use Rattle.cpl_sequence.specs.Unrolled.{run_ops, unroll_all, up_to}
+use Rattle.cpl_sequence.specs.Operations.{run_ops, body_ops, numbers_below}
 use Rattle.cpl_sequence.specs.declared.element.Element.{Element, roll-Element}
 use Rattle.cpl_sequence.specs.declared.element.Element.TheOpen.{Link, Run, Loop}
 use Rattle.cpl_sequence.specs.declared.frame.Frame.{Frame}
@@ -46,10 +46,10 @@ pub record IsStanding (frame : Frame) (frames : List Frame) (step duration : ℕ
 
 -- the later iterations of a loop, from a round on
 abbrev later : (step duration : ℕ) → List Element → (time round : ℕ) → List Op
-later step duration body time round = flat_map (λ n. unroll_all body (time + n * step) step) (drop round (up_to (duration / step)))
+later step duration body time round = flat_map (λ n. body_ops body (time + n * step) step) (drop round (numbers_below (duration / step)))
 
 -- a turn to a frame of the same loop
-turn_here : (frame next : Frame) (frames : List Frame) (levels step duration : ℕ) (body : List Element) (time : ℕ) (op : Op) (e : Element) (rest : List Op) → length frames ≡ suc levels → IsBody levels step duration body → IsStanding next frames step duration body e → remainder_in (frame ∷ frames) step duration body time ≡ op ∷ rest → rest ≡ unroll_all (drop next.place body) (time + next.round * step) step ++ later step duration body time (next.round + 1) → StepsLoop (frame ∷ frames) step duration body time (record { op = op; turn = Some (record { level = 0; frame = next }) })
+turn_here : (frame next : Frame) (frames : List Frame) (levels step duration : ℕ) (body : List Element) (time : ℕ) (op : Op) (e : Element) (rest : List Op) → length frames ≡ suc levels → IsBody levels step duration body → IsStanding next frames step duration body e → remainder_in (frame ∷ frames) step duration body time ≡ op ∷ rest → rest ≡ body_ops (drop next.place body) (time + next.round * step) step ++ later step duration body time (next.round + 1) → StepsLoop (frame ∷ frames) step duration body time (record { op = op; turn = Some (record { level = 0; frame = next }) })
 turn_here frame next frames levels step duration body time op e rest is sound stands now same =
     let begun = started_all frames levels is e step (ready levels step duration body next.place e sound stands.got) in
     record {
@@ -59,10 +59,10 @@ turn_here frame next frames levels step duration body time op e rest is sound st
     }
 
 -- a step in a loop whose element has nothing left
-step_over : (frame : Frame) (frames : List Frame) (levels step duration : ℕ) (body : List Element) (time : ℕ) (op : Op) → length frames ≡ suc levels → IsBody levels step duration body → frame.round < duration / step → remainder_in (frame ∷ frames) step duration body time ≡ op ∷ (unroll_all (drop (frame.place + 1) body) (time + frame.round * step) step ++ later step duration body time (frame.round + 1)) → StepsLoop (frame ∷ frames) step duration body time (record { op = op; turn = turn_of None frame (length body) (duration / step) })
+step_over : (frame : Frame) (frames : List Frame) (levels step duration : ℕ) (body : List Element) (time : ℕ) (op : Op) → length frames ≡ suc levels → IsBody levels step duration body → frame.round < duration / step → remainder_in (frame ∷ frames) step duration body time ≡ op ∷ (body_ops (drop (frame.place + 1) body) (time + frame.round * step) step ++ later step duration body time (frame.round + 1)) → StepsLoop (frame ∷ frames) step duration body time (record { op = op; turn = turn_of None frame (length body) (duration / step) })
 step_over frame frames levels step duration body time op is sound round now =
-    let rest = unroll_all (drop (frame.place + 1) body) (time + frame.round * step) step ++ later step duration body time (frame.round + 1) in
-    let none = λ (last : length body ≤ frame.place + 1). ap (λ es. unroll_all es (time + frame.round * step) step ++ later step duration body time (frame.round + 1)) (drop_all (frame.place + 1) body last) in
+    let rest = body_ops (drop (frame.place + 1) body) (time + frame.round * step) step ++ later step duration body time (frame.round + 1) in
+    let none = λ (last : length body ≤ frame.place + 1). ap (λ es. body_ops es (time + frame.round * step) step ++ later step duration body time (frame.round + 1)) (drop_all (frame.place + 1) body last) in
     elim (cases_lt (frame.place + 1) (length body)) [
       | inl inside ↦
           let member = member_at body (frame.place + 1) inside in
@@ -73,10 +73,10 @@ step_over frame frames levels step duration body time op is sound round now =
             let member = member_at body 0 sound.some in
             rw (next_round frame (length body) (duration / step) last again)
             (turn_here frame (record { place = 0; round = frame.round + 1 }) frames levels step duration body time op member.0 rest is sound (record { got = member.1; round = again }) now
-            (none last ∙ later_more (λ n. unroll_all body (time + n * step) step) (duration / step) (frame.round + 1) again))
+            (none last ∙ later_more (λ n. body_ops body (time + n * step) step) (duration / step) (frame.round + 1) again))
         | inr over ↦
             rw (next_none frame (length body) (duration / step) last over) (record {
-              gives = now ∙ ap (λ ops. op ∷ ops) (none last ∙ later_none (λ n. unroll_all body (time + n * step) step) (duration / step) (frame.round + 1) over);
+              gives = now ∙ ap (λ ops. op ∷ ops) (none last ∙ later_none (λ n. body_ops body (time + n * step) step) (duration / step) (frame.round + 1) over);
               fits = tt;
               inside = tt;
             })
@@ -86,12 +86,12 @@ step_over frame frames levels step duration body time op is sound round now =
 -- a step in a loop, by that of the element at which it stands
 pub step_in : (turn : Option Turn) (frame : Frame) (frames : List Frame) (levels step duration : ℕ) (body : List Element) (time : ℕ) (op : Op) (e : Element) → length frames ≡ suc levels → IsBody levels step duration body → IsStanding frame frames step duration body e → StepsElement frames e (time + frame.round * step) step (record { op = op; turn = turn }) → StepsLoop (frame ∷ frames) step duration body time (record { op = op; turn = turn_of turn frame (length body) (duration / step) })
 step_in None frame frames levels step duration body time op e is sound stands made =
-    let after = unroll_all (drop (frame.place + 1) body) (time + frame.round * step) step in
+    let after = body_ops (drop (frame.place + 1) body) (time + frame.round * step) step in
     step_over frame frames levels step duration body time op is sound stands.round
     (loop_left frame frames step duration body time e stands.got
     ∙ ap (λ ops. ((ops ++ []) ++ after) ++ later step duration body time (frame.round + 1)) made.gives)
 step_in (Some turn) frame frames levels step duration body time op e is sound stands made =
-    let after = unroll_all (drop (frame.place + 1) body) (time + frame.round * step) step in
+    let after = body_ops (drop (frame.place + 1) body) (time + frame.round * step) step in
     let below = turned_frames frames turn.level turn.frame in
     rw (add-one turn.level) (record {
       gives =

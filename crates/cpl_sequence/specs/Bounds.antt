@@ -2,7 +2,7 @@
 use Rattle.std.specs.Prelude.{◌≡◌, ◌≢◌, ⊤, ℕ, ℤ, pos, ◌+ℤ◌, ◌≤ℤ◌, ◌<◌, ◌^◌, false, List, Option, Some, length, slice_get, unwrap_or}
 use Rattle.std.specs.List.{All}
 use Rattle.cpl_sequence.specs.Sequence.{Sequence}
-use Rattle.cpl_sequence.specs.Unrolled.{unrolled}
+use Rattle.cpl_sequence.specs.Operations.{operations_of}
 use Rattle.cpl_sequence.specs.declared.link_line.LinkLine.{LinkLine}
 use Rattle.cpl_sequence.specs.declared.op.Op.{Op}
 use Rattle.cpl_sequence.specs.declared.op.Op.TheVariants.{Init, Link, Run}
@@ -57,8 +57,8 @@ pub record AreOfPairs (links : List LinkLine) : Type 0 where
 
 -- A sequence over these names.
 pub record IsOver (names : List SeqName) (seq : Sequence) : Type 0 where
-  pub operations : All (IsOpOver names) (unrolled seq)
-  pub within : All (IsOpWithin seq) (unrolled seq)
+  pub operations : All (IsOpOver names) (operations_of seq)
+  pub within : All (IsOpWithin seq) (operations_of seq)
   pub ends : All (IsLinkOver names) seq.links
   pub pairs : AreOfPairs seq.links
   pub few : length seq.links < 2 ^ 16

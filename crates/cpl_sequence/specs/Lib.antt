@@ -2,9 +2,9 @@ pub mod Bounds
 pub mod Examples
 pub mod Kept
 pub mod Marks
+pub mod Operations
 pub mod Places
 pub mod Remainder
 pub mod Sequence
 pub mod Sound
 pub mod Turns
-pub mod Unrolled

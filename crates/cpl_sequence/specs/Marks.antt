@@ -10,13 +10,13 @@ use Rattle.cpl_sequence.specs.declared.marks.Marks.{Marks}
 use Rattle.cpl_sequence.specs.declared.marks.Tally.{Tally}
 
 -- the greatest number that is counted
-abbrev pub most : ℕ
-most = 2 ^ 64 - 1
+abbrev pub greatest_count : ℕ
+greatest_count = 2 ^ 64 - 1
 
 -- how many operations a phase has in one iteration
-abbrev pub runs : Option ℕ → ℕ → ℕ
-runs None step = 1
-runs (Some substep) step = step / substep
+abbrev pub run_count : Option ℕ → ℕ → ℕ
+run_count None step = 1
+run_count (Some substep) step = step / substep
 
 -- a mark of these parts
 abbrev pub mark_of : (before round : ℕ) → List Mark → Mark
@@ -25,12 +25,12 @@ mark_of before round body = roll-Mark (record { before = before; round = round; 
 -- the marks of members with these tallies, behind so many operations
 abbrev pub marks_behind : ℕ → List Tally → List Mark
 marks_behind before [] = []
-marks_behind before (tally ∷ tallies) = mark_of before tally.round tally.body ∷ marks_behind (min (before + tally.count) most) tallies
+marks_behind before (tally ∷ tallies) = mark_of before tally.round tally.body ∷ marks_behind (min (before + tally.count) greatest_count) tallies
 
 -- how many operations there are with theirs
 abbrev pub count_behind : ℕ → List Tally → ℕ
 count_behind before [] = before
-count_behind before (tally ∷ tallies) = count_behind (min (before + tally.count) most) tallies
+count_behind before (tally ∷ tallies) = count_behind (min (before + tally.count) greatest_count) tallies
 
 -- what is kept of members with these tallies
 abbrev pub marks_by : List Tally → Marks
@@ -38,12 +38,12 @@ marks_by tallies = record { count = count_behind 0 tallies; marks = marks_behind
 
 -- the tally of a loop, by what is kept of its body
 abbrev pub loop_tally : (step duration : ℕ) → Marks → Tally
-loop_tally step duration kept = record { count = min ((duration / step) * kept.count) most; round = kept.count; body = kept.marks }
+loop_tally step duration kept = record { count = min ((duration / step) * kept.count) greatest_count; round = kept.count; body = kept.marks }
 
 -- What is kept of an element in a loop of a step, with those of each inner element in its place.
 abbrev pub tally_step : Element-F (ℕ → Tally) → ℕ → Tally
 tally_step (Link link) step = record { count = 1; round = 0; body = [] }
-tally_step (Run component phase substep) step = record { count = min (runs substep step) most; round = 0; body = [] }
+tally_step (Run component phase substep) step = record { count = min (run_count substep step) greatest_count; round = 0; body = [] }
 tally_step (Loop inner duration body) step = loop_tally inner duration (marks_by (map (λ tally. tally inner) body))
 
 -- what is kept of an element in a loop of a step

@@ -1,9 +1,9 @@
 -- The code's own: where the k-th operation stands, at each level of the tree.
 use Rattle.std.specs.Prelude.{◌≡◌, ◌<◌, ◌≤◌, ℕ, ◌+◌, ◌^◌, List, slice_get, length, IsTrue}
 use Rattle.std.specs.List.{flat_map, list_all}
-use Rattle.cpl_sequence.specs.Marks.{body_marks, most, tally_of, tally_of_top}
+use Rattle.cpl_sequence.specs.Marks.{body_marks, greatest_count, tally_of, tally_of_top}
 use Rattle.cpl_sequence.specs.Sound.{is_timed, is_timed_top}
-use Rattle.cpl_sequence.specs.Unrolled.{unroll, unroll_all, unroll_top}
+use Rattle.cpl_sequence.specs.Operations.{element_ops, body_ops, top_ops}
 use Rattle.cpl_sequence.specs.declared.element.Element.{Element}
 use Rattle.cpl_sequence.specs.declared.element.TopLoop.{TopLoop}
 use Rattle.cpl_sequence.specs.declared.marks.Mark.{Mark, out-Mark}
@@ -19,8 +19,8 @@ pub record IsMarkBy (tally : Tally) (mark : Mark) : Type 0 where
 pub record IsAtTop (top : TopLoop) (mark : Mark) (k : ℕ) : Type 0 where
   pub timed : IsTrue (is_timed_top top)
   pub early : top.begin + top.duration ≤ 2 ^ 40
-  pub below : k < length (unroll_top top)
-  pub small : k < most
+  pub below : k < length (top_ops top)
+  pub small : k < greatest_count
   pub marked : IsMarkBy (tally_of_top top) mark
 
 -- That of an element in one iteration can.
@@ -28,8 +28,8 @@ pub record IsAtElement (element : Element) (mark : Mark) (time step k : ℕ) : T
   pub timed : IsTrue (is_timed element step)
   pub some : 0 < step
   pub early : time + step ≤ 2 ^ 40
-  pub below : k < length (unroll element time step)
-  pub small : k < most
+  pub below : k < length (element_ops element time step)
+  pub small : k < greatest_count
   pub marked : IsMarkBy (tally_of element step) mark
 
 -- That of a body in one iteration can.
@@ -37,8 +37,8 @@ pub record IsAtBody (body : List Element) (marks : List Mark) (time step k : ℕ
   pub timed : IsTrue (list_all (λ element. is_timed element step) body)
   pub some : 0 < step
   pub early : time + step ≤ 2 ^ 40
-  pub below : k < length (unroll_all body time step)
-  pub small : k < most
+  pub below : k < length (body_ops body time step)
+  pub small : k < greatest_count
   pub marked : marks ≡ (body_marks body step).marks
 
 -- The k-th operation of all members is a certain one of this member.

@@ -2,7 +2,7 @@
 use Rattle.std.specs.Prelude.{◌≡◌, ◌<◌, ◌≤◌, ⊤, ℕ, ◌+◌, ◌*◌, ◌/◌, false, List, [], ◌∷◌, ◌++◌, IfSome, MatchOption, length, drop, slice_get, option_to_list}
 use Rattle.std.specs.List.{flat_map}
 use Rattle.cpl_sequence.specs.Sequence.{Sequence}
-use Rattle.cpl_sequence.specs.Unrolled.{run_ops, unroll_all, unroll_top, unrolled, up_to}
+use Rattle.cpl_sequence.specs.Operations.{run_ops, body_ops, top_ops, operations_of, numbers_below}
 use Rattle.cpl_sequence.specs.declared.element.Element.{Element, out-Element}
 use Rattle.cpl_sequence.specs.declared.element.Element.TheOpen.{Element-F, Link, Run, Loop}
 use Rattle.cpl_sequence.specs.declared.element.TopLoop.{TopLoop}
@@ -25,8 +25,8 @@ abbrev pub remainder_at : Frame → (Element → ℕ → ℕ → List Op) → (s
 remainder_at frame rest step duration body time =
     let now = time + frame.round * step in
     flat_map (λ element. rest element now step) (option_to_list (slice_get body frame.place))
-    ++ unroll_all (drop (frame.place + 1) body) now step
-    ++ flat_map (λ n. unroll_all body (time + n * step) step) (drop (frame.round + 1) (up_to (duration / step)))
+    ++ body_ops (drop (frame.place + 1) body) now step
+    ++ flat_map (λ n. body_ops body (time + n * step) step) (drop (frame.round + 1) (numbers_below (duration / step)))
 
 -- what is left of an element at one level, where an element in it has such a rest
 abbrev pub remainder_step : Frame → (Element → ℕ → ℕ → List Op) → Element-F Element → ℕ → ℕ → List Op
@@ -50,7 +50,7 @@ remainder_of_top frames top = remainder_in frames top.step top.duration top.body
 
 -- the operations that a cursor has still to give, in their order
 abbrev pub remainder : Sequence → Spot → List Op
-remainder seq spot = flat_map (remainder_of_top spot.frames) (option_to_list (slice_get seq.loops spot.top)) ++ flat_map unroll_top (drop (spot.top + 1) seq.loops)
+remainder seq spot = flat_map (remainder_of_top spot.frames) (option_to_list (slice_get seq.loops spot.top)) ++ flat_map top_ops (drop (spot.top + 1) seq.loops)
 
 -- a frame is one of a loop: in one of its rounds, and at an element where the frames below fit
 abbrev pub FitsLoop : Frame → (Element → ℕ → Type 0) → (step duration : ℕ) → List Element → Type 0
@@ -82,11 +82,11 @@ pub record IsCursorOf (seq : Sequence) (spot : Spot) : Type 0 where
   pub levels : length spot.frames ≡ 9
   pub fits : MatchOption (slice_get seq.loops spot.top) ⊤ (FitsTop spot.frames)
   pub given : ℕ
-  pub rest : remainder seq spot ≡ drop given (unrolled seq)
+  pub rest : remainder seq spot ≡ drop given (operations_of seq)
 
 -- From a place on, a place is that of the first loop in which something stands, or past the last.
 pub record IsFilledFrom (tops : List TopLoop) (from place : ℕ) : Type 0 where
   pub behind : from ≤ place
   pub inside : place ≤ length tops
-  pub empty : flat_map unroll_top (drop from tops) ≡ flat_map unroll_top (drop place tops)
+  pub empty : flat_map top_ops (drop from tops) ≡ flat_map top_ops (drop place tops)
   pub filled : IfSome (slice_get tops place) (λ top. 0 < length top.body)

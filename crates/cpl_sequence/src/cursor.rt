@@ -39,7 +39,7 @@ impl Model for Cursor {
 impl Cursor {
     ghost use Rattle.cpl_sequence.specs.Bounds.{IsOpOver, IsOpWithin, IsOver};
     ghost use Rattle.cpl_sequence.specs.Remainder.{IsCursorOf, remainder};
-    ghost use Rattle.cpl_sequence.specs.Unrolled.{unrolled};
+    ghost use Rattle.cpl_sequence.specs.Operations.{operations_of};
     ghost use Rattle.cpl_sequence.specs.declared.seq_name.SeqName.{SeqName};
 
     /// The k-th operation of a sequence, from 0: a division and a search at each level of the tree. It is a link
@@ -49,8 +49,8 @@ impl Cursor {
     ///
     /// Source: this project's own.
     pub fn op(seq: &Seq, k: u64) -> Op
-        requires { k < min (length (unrolled seq.now)) (2 ^ 64 - 1) }
-        ensures value { slice_get (unrolled seq.now) k ≡ Some result }
+        requires { k < min (length (operations_of seq.now)) (2 ^ 64 - 1) }
+        ensures value { slice_get (operations_of seq.now) k ≡ Some result }
         ensures within { IsOpWithin seq.now result }
         ensures over { (names : List SeqName) → IsOver names seq.now → IsOpOver names result }
     {
@@ -67,7 +67,7 @@ impl Cursor {
     /// Source: this project's own.
     pub fn start(alloc: Global, seq: &Seq) -> Result<Cursor, Memory>
         ensures of { IfOk result (λ cursor. IsCursorOf seq.now cursor) }
-        ensures all { IfOk result (λ cursor. remainder seq.now cursor ≡ unrolled seq.now) }
+        ensures all { IfOk result (λ cursor. remainder seq.now cursor ≡ operations_of seq.now) }
     {
         let frames = vec![in alloc; Frame::START; LEVELS]?;
         Ok(Cursor {
@@ -86,7 +86,8 @@ impl Cursor {
         ensures of { IsCursorOf seq.now self.new }
         ensures gives { MatchOption result ((remainder seq.now self.old ≡ []) × (remainder seq.now self.new ≡ [])) (λ op. remainder seq.now self.old ≡ op ∷ remainder seq.now self.new) }
         // The k-th call gives the k-th operation, from 0.
-        ensures in_order { (k : ℕ) → remainder seq.now self.old ≡ drop k (unrolled seq.now) → (result ≡ slice_get (unrolled seq.now) k) × (remainder seq.now self.new ≡ drop (k + 1) (unrolled seq.now)) }
+        ensures in_order { (k : ℕ) → remainder seq.now self.old ≡ drop k (operations_of seq.now)
+            → (result ≡ slice_get (operations_of seq.now) k) × (remainder seq.now self.new ≡ drop (k + 1) (operations_of seq.now)) }
         ensures within { IfSome result (IsOpWithin seq.now) }
         ensures over { IfSome result (λ op. (names : List SeqName) → IsOver names seq.now → IsOpOver names op) }
     {

@@ -1,4 +1,4 @@
-//! The run sequence as a tree of loops, and the operations that it unrolls to.
+//! The run sequence as a tree of loops, and the operations that it stands for.
 //!
 //! How a sequence is written is no matter of this crate, nor what an operation does.
 #![tactic(auto)]

@@ -4,7 +4,7 @@ ghost use Rattle.std.specs.Prelude.{◌≡◌, ◌<◌, ◌≤◌, ◌+◌, ◌*
 ghost use Rattle.cpl_sequence.specs.Marks.{AreRising, IsLastUpTo};
 ghost use Rattle.cpl_sequence.specs.Places.{IsAtBody, IsAtElement, IsAtTop};
 ghost use Rattle.cpl_sequence.specs.Sound.{is_substep};
-ghost use Rattle.cpl_sequence.specs.Unrolled.{run_ops, unroll, unroll_all, unroll_top};
+ghost use Rattle.cpl_sequence.specs.Operations.{run_ops, element_ops, body_ops, top_ops};
 ghost use Rattle.cpl_sequence.specs.declared.marks.Mark.{out-Mark};
 
 use crate::element::{Element, TopLoop};
@@ -14,7 +14,7 @@ use crate::op::Op;
 /// The k-th operation of a loop that stands in no other.
 pub(crate) fn top_op(top: &TopLoop, mark: &Mark, k: u64) -> Op
     requires { IsAtTop top.now mark.now k }
-    ensures { slice_get (unroll_top top.now) k ≡ Some result }
+    ensures { slice_get (top_ops top.now) k ≡ Some result }
 {
     let time = top.begin + k / mark.round * top.step;
     let within = k % mark.round;
@@ -31,7 +31,7 @@ pub(crate) fn top_op(top: &TopLoop, mark: &Mark, k: u64) -> Op
 #[cycle(walking)]
 fn body_op(body: &[Element], marks: &[Mark], time: u64, step: u64, k: u64) -> Op
     requires { IsAtBody body.now marks.now time step k }
-    ensures { slice_get (unroll_all body.now time step) k ≡ Some result }
+    ensures { slice_get (body_ops body.now time step) k ≡ Some result }
 {
     let place = last_up_to(marks, k);
     let mark = &marks[place];
@@ -42,7 +42,7 @@ fn body_op(body: &[Element], marks: &[Mark], time: u64, step: u64, k: u64) -> Op
 #[cycle(walking)]
 fn element_op(element: &Element, mark: &Mark, time: u64, step: u64, k: u64) -> Op
     requires { IsAtElement element.now mark.now time step k }
-    ensures { slice_get (unroll element.now time step) k ≡ Some result }
+    ensures { slice_get (element_ops element.now time step) k ≡ Some result }
 {
     match element {
         Element::Link { link } => Op::Link {

@@ -42,7 +42,7 @@ impl Model for Seq {
 
 impl Seq {
     ghost use Rattle.cpl_sequence.specs.Marks.{marks_of_tops};
-    ghost use Rattle.cpl_sequence.specs.Unrolled.{unrolled};
+    ghost use Rattle.cpl_sequence.specs.Operations.{operations_of};
     ghost use Rattle.cpl_sequence.specs.Sound.{IsSound};
 
     /// The sequence of these connectors and loops, which last so many seconds. Takes time in the number of its
@@ -99,7 +99,7 @@ impl Seq {
     ///
     /// Source: this project's own.
     pub fn op_count(&self) -> u64
-        ensures value { result ≡ min (length (unrolled self.now)) (2 ^ 64 - 1) }
+        ensures value { result ≡ min (length (operations_of self.now)) (2 ^ 64 - 1) }
         ensures sound { IsSound self.now }
     {
         self.count

@@ -7,7 +7,7 @@ use Rattle.std.specs.List.{All, before_first, join_with_byte, list_all, position
 use Rattle.std.specs.Str.Lines.{strip_carriage_return}
 use Rattle.cpl_text.specs.declared.text_lines.Line.{Line}
 use Rattle.cpl_text.specs.declared.text_lines.Word.{Word}
-use Rattle.cpl_text.specs.Lines.{Part, TextLine, begins_comment, ends_line, faulty_line, first_faulty, has_words, is_allowed, is_blank, is_word, lines_of, line_at, content_of, lines_from, part_at, parts_from, words_at}
+use Rattle.cpl_text.specs.Lines.{Part, TextLine, begins_comment, ends_line, faulty_line, first_faulty_number, has_words, is_allowed, is_blank, is_word, lines_of, line_at, content_of, lines_from, part_at, parts_from, words_at}
 use Rattle.cpl_text.specs.Spans.{IsLines, Stands, StandsIn, line_in, part_in, span_of}
 use Rattle.cpl_text.proofs.PartsFacts.{IsFront, front-take, moved, parts_from-moved, parts_from-push, room, room-slice_split, stand-slice_split, stands-moved}
 
@@ -100,7 +100,7 @@ lines-skip texts text lines words so_far words_are none =
     ∙ sym (ap (map spans_of) (ap (filter has_words) (lines_from-push-first texts text) ∙ filter-append has_words (lines_from 1 (parts_from 0 texts)) (line ∷ []) ∙ ap (λ (ls : List TextLine). filter has_words (lines_from 1 (parts_from 0 texts)) ++ ls) dropped ∙ append-nil (filter has_words (lines_from 1 (parts_from 0 texts)))))
 
 -- the lines so far are sound, and so is the next
-pub first_faulty-push : (number : ℕ) (lines : List (List ℕ)) (line : List ℕ) → first_faulty number lines ≡ None → list_all is_allowed (content_of line) ≡ true → first_faulty number (lines ++ line ∷ []) ≡ None
+pub first_faulty-push : (number : ℕ) (lines : List (List ℕ)) (line : List ℕ) → first_faulty_number number lines ≡ None → list_all is_allowed (content_of line) ≡ true → first_faulty_number number (lines ++ line ∷ []) ≡ None
 first_faulty-push number [] line before here = rw here refl
 first_faulty-push number (l ∷ ls) line before here =
     elim (cases_Bool (list_all is_allowed (content_of l))) [
@@ -109,7 +109,7 @@ first_faulty-push number (l ∷ ls) line before here =
     ]
 
 -- the first faulty line comes behind as many as are sound
-pub first_faulty-at : (number : ℕ) (lines : List (List ℕ)) (k : ℕ) (d : List ℕ) → first_faulty number (take k lines) ≡ None → k < length lines → list_all is_allowed (content_of (get_or lines k d)) ≡ false → first_faulty number lines ≡ Some (number + k)
+pub first_faulty-at : (number : ℕ) (lines : List (List ℕ)) (k : ℕ) (d : List ℕ) → first_faulty_number number (take k lines) ≡ None → k < length lines → list_all is_allowed (content_of (get_or lines k d)) ≡ false → first_faulty_number number lines ≡ Some (number + k)
 first_faulty-at number [] k d before inside here = absurd (omega arith)
 first_faulty-at number (l ∷ ls) zero d before inside here = rw here (ap Some (sym (add-zero number)))
 first_faulty-at number (l ∷ ls) (suc k) d before inside here =
@@ -180,7 +180,7 @@ lines_from_stand text number (l ∷ ls) all =
     All-cons (StandsIn text) _ (lines_from (number + 1) ls) (record { words_stand = words_stand text l (All-head (Stands text) l ls all) }) (lines_from_stand text (number + 1) ls (All-tail (Stands text) l ls all))
 
 -- lines whose spans are those of the lines of the text are its lines
-pub lines_from_spans : (text : List ℕ) (lines : List Line) → map spans lines ≡ map spans_of (filter has_words (lines_from 1 (parts_from 0 (slice_split ends_line text)))) → first_faulty 1 (slice_split ends_line text) ≡ None → IsLines text lines
+pub lines_from_spans : (text : List ℕ) (lines : List Line) → map spans lines ≡ map spans_of (filter has_words (lines_from 1 (parts_from 0 (slice_split ends_line text)))) → first_faulty_number 1 (slice_split ends_line text) ≡ None → IsLines text lines
 unfolding lines_of faulty_line
 lines_from_spans text lines same sound =
     let all = lines_from_stand text 1 (parts_from 0 (slice_split ends_line text)) (stand-slice_split ends_line text) in

@@ -69,11 +69,11 @@ unfoldable pub lines_of : List ℕ → List TextLine
 lines_of bytes = filter has_words (lines_from 1 (parts_from 0 (slice_split ends_line bytes)))
 
 -- the number of the first line that has a byte that isn't allowed
-abbrev pub first_faulty : ℕ → List (List ℕ) → Option ℕ
-first_faulty number [] = None
-first_faulty number (line ∷ lines) =
-    if list_all is_allowed (content_of line) then first_faulty (number + 1) lines else Some number
+abbrev pub first_faulty_number : ℕ → List (List ℕ) → Option ℕ
+first_faulty_number number [] = None
+first_faulty_number number (line ∷ lines) =
+    if list_all is_allowed (content_of line) then first_faulty_number (number + 1) lines else Some number
 
 -- the same, of the lines of a text
 unfoldable pub faulty_line : List ℕ → Option ℕ
-faulty_line bytes = first_faulty 1 (slice_split ends_line bytes)
+faulty_line bytes = first_faulty_number 1 (slice_split ends_line bytes)

@@ -6,7 +6,7 @@ use Rattle.cpl_formula.specs.Tree.{value_of, value_step}
 use Rattle.cpl_formula.specs.declared.formula.Formula.{Formula}
 use Rattle.cpl_formula.specs.declared.formula.Formula.TheFolds.{fold-roll-Formula}
 use Rattle.cpl_formula.specs.declared.formula.Formula.TheOpen.{Number, Input, Plus, Less, Times, Over}
-use Rattle.bench.specs.Flux.{number, input, plus, less, times, over}
+use Rattle.bench.specs.Flux.{number, input, plus_tree, less_tree, times_tree, over_tree}
 use Rattle.bench.proofs.cells.plain_flux.Goals as goal
 
 -- ---- the value of one level
@@ -17,16 +17,16 @@ read_at xs k = sym (fold-roll-Formula ℤ (value_step xs) (Input k))
 given : (xs : List ℤ) → (n : ℕ) → pos n ≡ value_of xs (number n)
 given xs n = sym (fold-roll-Formula ℤ (value_step xs) (Number (pos n)))
 
-summed : (xs : List ℤ) → (a b : Formula) → clip (value_of xs a +ℤ value_of xs b) ≡ value_of xs (plus a b)
+summed : (xs : List ℤ) → (a b : Formula) → clip (value_of xs a +ℤ value_of xs b) ≡ value_of xs (plus_tree a b)
 summed xs a b = sym (fold-roll-Formula ℤ (value_step xs) (Plus a b))
 
-lessened : (xs : List ℤ) → (a b : Formula) → clip (value_of xs a -ℤ value_of xs b) ≡ value_of xs (less a b)
+lessened : (xs : List ℤ) → (a b : Formula) → clip (value_of xs a -ℤ value_of xs b) ≡ value_of xs (less_tree a b)
 lessened xs a b = sym (fold-roll-Formula ℤ (value_step xs) (Less a b))
 
-multiplied : (xs : List ℤ) → (a b : Formula) → product_of (value_of xs a) (value_of xs b) ≡ value_of xs (times a b)
+multiplied : (xs : List ℤ) → (a b : Formula) → product_of (value_of xs a) (value_of xs b) ≡ value_of xs (times_tree a b)
 multiplied xs a b = sym (fold-roll-Formula ℤ (value_step xs) (Times a b))
 
-divided : (xs : List ℤ) → (a b : Formula) → quotient_of (value_of xs a) (value_of xs b) ≡ value_of xs (over a b)
+divided : (xs : List ℤ) → (a b : Formula) → quotient_of (value_of xs a) (value_of xs b) ≡ value_of xs (over_tree a b)
 divided xs a b = sym (fold-roll-Formula ℤ (value_step xs) (Over a b))
 
 -- a value fits 64 bits

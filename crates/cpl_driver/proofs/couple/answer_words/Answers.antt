@@ -1,12 +1,12 @@
 use Rattle.std.proofs.Common.{refl, sym}
-use Rattle.cpl_driver.specs.Answers.{usage}
+use Rattle.cpl_driver.specs.Answers.{usage_reply}
 use Rattle.cpl_driver.specs.Causes.{out_of_memory, wrong_words, of_file, no_memory}
 use Rattle.cpl_driver.specs.Replies.{reply_of}
 use Rattle.cpl_driver.proofs.CallsFacts.{nothing_delivered}
 use Rattle.cpl_driver.proofs.couple.answer_words.Goals as goal
 
 pub returns-in_default : goal.returns-in_default
-returns-in_default g c = (usage, wrong_words (sym c.in_default.ensures) refl refl, c.deliver.ensures)
+returns-in_default g c = (usage_reply, wrong_words (sym c.in_default.ensures) refl refl, c.deliver.ensures)
 
 pub returns-in-Err : goal.returns-in-Err
 returns-in-Err g c = (

@@ -2,15 +2,15 @@ use Rattle.std.proofs.Common.{Bool, refl}
 use Rattle.cpl_sequence.specs.Sound.{linked_step}
 use Rattle.cpl_sequence.specs.declared.element.Element.TheFolds.{fold-roll-Element}
 use Rattle.cpl_sequence.specs.declared.element.Element.TheViews.{out-roll-Element}
-use Rattle.cpl_sequence.proofs.TreeFacts.{is_nested-Link, is_nested-Loop, is_nested-Loop_zero, is_timed-Link, is_timed-Loop, is_timed-Run, unroll-Link, unroll-Loop, unroll-Run}
+use Rattle.cpl_sequence.proofs.TreeFacts.{is_nested-Link, is_nested-Loop, is_nested-Loop_zero, is_timed-Link, is_timed-Loop, is_timed-Run, element_ops-Link, element_ops-Loop, element_ops-Run}
 use Rattle.cpl_sequence.proofs.examples.sequence_examples.Goals as goal
 
 pub returns : goal.returns
 returns c = record {
-  hours = simp (unroll-Link, unroll-Run, unroll-Loop);
-  one_loop = simp (unroll-Link, unroll-Run);
+  hours = simp (element_ops-Link, element_ops-Run, element_ops-Loop);
+  one_loop = simp (element_ops-Link, element_ops-Run);
   nothing = refl;
-  at_start = simp (unroll-Link, unroll-Run, unroll-Loop, out-roll-Element);
+  at_start = simp (element_ops-Link, element_ops-Run, element_ops-Loop, out-roll-Element);
   in_second_hour = simp out-roll-Element;
   past_end = refl;
   sound = simp (is_timed-Link, is_timed-Run, is_timed-Loop);
@@ -24,5 +24,5 @@ returns c = record {
   joined = refl;
   not_to_the_end = refl;
   empty_top_loop = refl;
-  skipped = simp unroll-Link;
+  skipped = simp element_ops-Link;
 }

@@ -5,7 +5,7 @@ use Rattle.std.proofs.lemmas.List.{length-map, map-append}
 use Rattle.std.specs.List.{list_all, slice_split}
 use Rattle.cpl_text.specs.declared.text_lines.Line.{Line}
 use Rattle.cpl_text.specs.declared.text_lines.Word.{Word}
-use Rattle.cpl_text.specs.Lines.{ends_line, faulty_line, first_faulty, has_words, is_allowed, content_of, lines_from, parts_from, words_at}
+use Rattle.cpl_text.specs.Lines.{ends_line, faulty_line, first_faulty_number, has_words, is_allowed, content_of, lines_from, parts_from, words_at}
 use Rattle.cpl_text.specs.Spans.{span_of}
 use Rattle.cpl_text.proofs.LinesFacts.{first_faulty-at, first_faulty-push, length-content_of, lines-push, lines-skip, lines_from_spans, lines_stand, spans, spans_of}
 use Rattle.cpl_text.proofs.PartsFacts.{room, room-push, room-so_far}
@@ -23,7 +23,7 @@ returns-then-not-are_allowed-clause-fault c =
     YieldsList-so_far (YieldsList-from_slice_split _ ends_line c.args.bytes.now (cc) (cc) (cc) (λ x b q k. search (rules, tests))) yielded _ c.loop-line.yielded_by in
     let turn : (length yielded < length parts) × (line ≡ get_or parts (length yielded) line) =
     YieldsList-turn (YieldsList-from_slice_split _ ends_line c.args.bytes.now (cc) (cc) (cc) (λ x b q k. search (rules, tests))) yielded _ c.loop-line.yielded_by _ _ c.in-Some.line c.in-Some.is c.next.ensures.steps in
-    let before = ap (first_faulty 1) (sym so_far) ∙ c.loop-line.invariant.sound in
+    let before = ap (first_faulty_number 1) (sym so_far) ∙ c.loop-line.invariant.sound in
     let refused : list_all is_allowed (content_of line) ≡ false = ap (list_all is_allowed) (sym c.content_of-text.ensures) ∙ sym c.are_allowed.ensures ∙ search (rules, tests) in
     let here = ap (λ (text : List ℕ). list_all is_allowed (content_of text)) (sym turn.1) ∙ refused in
     let number : 1 + length yielded ≡ c.loop-line.number + 1 = omega (arith, c.loop-line.invariant.number_is) in
@@ -87,7 +87,7 @@ loop-line-preserved c =
 pub returns-clause-ok : goal.returns-clause-ok
 returns-clause-ok c =
     let all = YieldsList-end (YieldsList-from_slice_split _ ends_line c.args.bytes.now (cc) (cc) (cc) (λ x b q k. search (rules, tests))) c.loop-line.yielded _ c.loop-line.yielded_by _ _ c.in-None.is c.next.ensures.steps in
-    lines_from_spans c.args.bytes.now c.loop-line.lines.items (c.loop-line.invariant.lines_are ∙ ap (λ (texts : List (List ℕ)). map spans_of (filter has_words (lines_from 1 (parts_from 0 texts)))) all.0) (ap (first_faulty 1) (sym all.0) ∙ c.loop-line.invariant.sound)
+    lines_from_spans c.args.bytes.now c.loop-line.lines.items (c.loop-line.invariant.lines_are ∙ ap (λ (texts : List (List ℕ)). map spans_of (filter has_words (lines_from 1 (parts_from 0 texts)))) all.0) (ap (first_faulty_number 1) (sym all.0) ∙ c.loop-line.invariant.sound)
 
 pub returns-clause-stand : goal.returns-clause-stand
 returns-clause-stand c = lines_stand c.args.bytes.now c.loop-line.lines.items (returns-clause-ok c)

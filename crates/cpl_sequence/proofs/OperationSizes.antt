@@ -3,12 +3,12 @@ use Rattle.std.proofs.Common.{◌≡◌, ℕ, ◌+◌, ◌*◌, ◌/◌, List, [
 use Rattle.std.specs.List.{flat_map}
 use Rattle.std.proofs.lemmas.List.{length-map}
 use Rattle.std.proofs.lemmas.List.FromFn.{length-range_with_len}
-use Rattle.cpl_sequence.specs.Marks.{runs}
-use Rattle.cpl_sequence.specs.Unrolled.{iterations, run_ops, unroll, unroll_all, up_to}
+use Rattle.cpl_sequence.specs.Marks.{run_count}
+use Rattle.cpl_sequence.specs.Operations.{iterations, run_ops, element_ops, body_ops, numbers_below}
 use Rattle.cpl_sequence.specs.declared.element.Element.{Element, roll-Element}
 use Rattle.cpl_sequence.specs.declared.element.Element.TheOpen.{Element-F, Link, Run, Loop}
 use Rattle.cpl_sequence.specs.declared.element.Element.TheFolds.{fold-Element, fold-roll-Element}
-use Rattle.cpl_sequence.proofs.TreeFacts.{Every, induction, unroll-Link, unroll-Loop, unroll-Run}
+use Rattle.cpl_sequence.proofs.TreeFacts.{Every, induction, element_ops-Link, element_ops-Loop, element_ops-Run}
 
 -- the sum of functions at a step
 abbrev sum_at : List (ℕ → ℕ) → ℕ → ℕ
@@ -18,7 +18,7 @@ sum_at (f ∷ fs) step = f step + sum_at fs step
 -- How many operations an element has, with those of each inner one in its place.
 abbrev size_step : Element-F (ℕ → ℕ) → ℕ → ℕ
 size_step (Link link) step = 1
-size_step (Run component phase substep) step = runs substep step
+size_step (Run component phase substep) step = run_count substep step
 size_step (Loop inner duration body) step = (duration / inner) * sum_at body inner
 
 -- how many operations an element has in a loop of a step
@@ -40,7 +40,7 @@ pub size-Link : (link step : ℕ) → size (roll-Element (Link link)) step ≡ 1
 size-Link link step = ap (λ f. f step) (fold-roll-Element (ℕ → ℕ) size_step (Link link))
 
 -- a phase has one for each substep
-pub size-Run : (component phase : ℕ) (substep : Option ℕ) (step : ℕ) → size (roll-Element (Run component phase substep)) step ≡ runs substep step
+pub size-Run : (component phase : ℕ) (substep : Option ℕ) (step : ℕ) → size (roll-Element (Run component phase substep)) step ≡ run_count substep step
 size-Run component phase substep step = ap (λ f. f step) (fold-roll-Element (ℕ → ℕ) size_step (Run component phase substep))
 
 -- a loop has those of its body at each step
@@ -57,35 +57,35 @@ length-flat_map_same f n one (x ∷ xs) = omega (arith, length-append (f x) (fla
 -- iterations of one length
 pub length-iterations : (body : ℕ → List Rattle.cpl_sequence.specs.declared.op.Op.Op) (n : ℕ) → ((time : ℕ) → length (body time) ≡ n) → (step duration time : ℕ) → length (iterations body step duration time) ≡ (duration / step) * n
 length-iterations body n one step duration time =
-    length-flat_map_same (λ i. body (time + i * step)) n (λ i. one (time + i * step)) (up_to (duration / step))
+    length-flat_map_same (λ i. body (time + i * step)) n (λ i. one (time + i * step)) (numbers_below (duration / step))
     ∙ ap (λ m. m * n) (length-range_with_len 0 (duration / step))
 
 -- the operations of a phase
-pub length-run_ops : (component phase time step : ℕ) (substep : Option ℕ) → length (run_ops component phase time step substep) ≡ runs substep step
+pub length-run_ops : (component phase time step : ℕ) (substep : Option ℕ) → length (run_ops component phase time step substep) ≡ run_count substep step
 length-run_ops component phase time step None = refl
 length-run_ops component phase time step (Some substep) =
-    length-map (up_to (step / substep)) _ ∙ length-range_with_len 0 (step / substep)
+    length-map (numbers_below (step / substep)) _ ∙ length-range_with_len 0 (step / substep)
 
 -- an element has as many at each time
 abbrev HasSize : Element → Type 0
-HasSize e = (time step : ℕ) → length (unroll e time step) ≡ size e step
+HasSize e = (time step : ℕ) → length (element_ops e time step) ≡ size e step
 
 -- so has a body, if each of its elements has
-every-size : (es : List Element) → Every HasSize es → (time step : ℕ) → length (unroll_all es time step) ≡ size_all es step
+every-size : (es : List Element) → Every HasSize es → (time step : ℕ) → length (body_ops es time step) ≡ size_all es step
 every-size [] each time step = refl
 every-size (e ∷ es) each time step =
-    omega (arith, length-append (unroll e time step) (unroll_all es time step), each.0 time step, every-size es each.1 time step)
+    omega (arith, length-append (element_ops e time step) (body_ops es time step), each.0 time step, every-size es each.1 time step)
 
 -- an element has as many at each time
-pub length-unroll : (e : Element) (time step : ℕ) → length (unroll e time step) ≡ size e step
-length-unroll = induction HasSize
-    (λ link time step. rw (unroll-Link link time step, size-Link link step) refl)
-    (λ component phase substep time step. rw (unroll-Run component phase substep time step, size-Run component phase substep step) (length-run_ops component phase time step substep))
-    (λ inner duration body each time step. rw (unroll-Loop inner duration body time step, size-Loop inner duration body step)
-    (length-iterations (λ start. unroll_all body start inner) (size_all body inner) (λ start. every-size body each start inner) inner duration time))
+pub length-element_ops : (e : Element) (time step : ℕ) → length (element_ops e time step) ≡ size e step
+length-element_ops = induction HasSize
+    (λ link time step. rw (element_ops-Link link time step, size-Link link step) refl)
+    (λ component phase substep time step. rw (element_ops-Run component phase substep time step, size-Run component phase substep step) (length-run_ops component phase time step substep))
+    (λ inner duration body each time step. rw (element_ops-Loop inner duration body time step, size-Loop inner duration body step)
+    (length-iterations (λ start. body_ops body start inner) (size_all body inner) (λ start. every-size body each start inner) inner duration time))
 
 -- and so has a body
-pub length-unroll_all : (es : List Element) (time step : ℕ) → length (unroll_all es time step) ≡ size_all es step
-length-unroll_all [] time step = refl
-length-unroll_all (e ∷ es) time step =
-    omega (arith, length-append (unroll e time step) (unroll_all es time step), length-unroll e time step, length-unroll_all es time step)
+pub length-body_ops : (es : List Element) (time step : ℕ) → length (body_ops es time step) ≡ size_all es step
+length-body_ops [] time step = refl
+length-body_ops (e ∷ es) time step =
+    omega (arith, length-append (element_ops e time step) (body_ops es time step), length-element_ops e time step, length-body_ops es time step)
