@@ -6,6 +6,8 @@
 #[cfg(test)]
 mod arguments;
 #[cfg(test)]
+mod caller;
+#[cfg(test)]
 mod depths;
 #[cfg(test)]
 mod long;
