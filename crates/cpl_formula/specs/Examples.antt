@@ -58,30 +58,39 @@ units n = number (pos (n * million))
 abbrev pub input : ℕ → Formula
 input k = roll-Formula (tree.Input k)
 
+-- minus a tree
 abbrev pub minus_tree : Formula → Formula
 minus_tree a = roll-Formula (tree.Minus a)
 
+-- a tree without its sign
 abbrev pub abs_tree : Formula → Formula
 abs_tree a = roll-Formula (tree.Abs a)
 
+-- the sum of two trees
 abbrev pub plus_tree : Formula → Formula → Formula
 plus_tree a b = roll-Formula (tree.Plus a b)
 
+-- their difference
 abbrev pub less_tree : Formula → Formula → Formula
 less_tree a b = roll-Formula (tree.Less a b)
 
+-- their product
 abbrev pub times_tree : Formula → Formula → Formula
 times_tree a b = roll-Formula (tree.Times a b)
 
+-- their quotient
 abbrev pub over_tree : Formula → Formula → Formula
 over_tree a b = roll-Formula (tree.Over a b)
 
+-- the lesser of the two
 abbrev pub min_tree : Formula → Formula → Formula
 min_tree a b = roll-Formula (tree.Min a b)
 
+-- the greater
 abbrev pub max_tree : Formula → Formula → Formula
 max_tree a b = roll-Formula (tree.Max a b)
 
+-- the second tree where the first is above 0, else the third
 abbrev pub select_tree : Formula → Formula → Formula → Formula
 select_tree c a b = roll-Formula (tree.Select c a b)
 
@@ -198,10 +207,11 @@ tokens = tokens_of (codes "x" ∷ codes "y" ∷ []) (codes "a" ∷ [])
 abbrev pub placed_token : ℕ → Token → Placed
 placed_token at token = record { at = at; token = token }
 
--- an atom as a term, and as an expr
+-- an atom as a term
 abbrev pub term_of_atom : Atom → Term
 term_of_atom a = factor (atom a)
 
+-- an atom as an expr
 abbrev pub expr_of_atom : Atom → Expr
 expr_of_atom a = term (term_of_atom a)
 
