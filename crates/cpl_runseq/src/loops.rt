@@ -11,7 +11,6 @@ use crate::read_loop::ReadLoop;
 use crate::state::State;
 use cpl_base::Memory;
 use cpl_sequence::Element;
-use sqlite_items::Items;
 use std::alloc::Global;
 
 /// At most so many loops are open at once.
@@ -74,12 +73,7 @@ fn top_loop(
     if !divides_given(step, given) {
         return Err(SeqFault::StepUneven { line });
     }
-    Ok(ReadLoop {
-        line,
-        step,
-        given,
-        body: Items::new(alloc),
-    })
+    Ok(ReadLoop::empty(alloc, line, step, given))
 }
 
 /// A loop that begins in another.
@@ -100,12 +94,7 @@ fn nested_loop(
     if !divides(step, duration) {
         return Err(SeqFault::StepUneven { line });
     }
-    Ok(ReadLoop {
-        line,
-        step,
-        given,
-        body: Items::new(alloc),
-    })
+    Ok(ReadLoop::empty(alloc, line, step, given))
 }
 
 /// The innermost loop ends.

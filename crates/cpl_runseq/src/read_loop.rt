@@ -1,7 +1,10 @@
 //! A loop while it is read.
 
+ghost use Rattle.std.specs.Prelude.{◌≡◌, []};
+
 use cpl_sequence::Element;
 use sqlite_items::Items;
+use std::alloc::Global;
 
 /// A loop as its row opens it, with what stands in it so far.
 #[derive(Drop)]
@@ -14,4 +17,18 @@ pub(crate) struct ReadLoop {
     pub given: Option<u64>,
     /// What stands in it.
     pub body: Items<Element>,
+}
+
+impl ReadLoop {
+    /// A loop in which nothing stands yet.
+    pub(crate) fn empty(alloc: Global, line: u32, step: u64, given: Option<u64>) -> ReadLoop
+        ensures { result ≡ record { line = line; step = step; given = given; body = [] } }
+    {
+        ReadLoop {
+            line,
+            step,
+            given,
+            body: Items::new(alloc),
+        }
+    }
 }

@@ -1,9 +1,9 @@
 //! What is kept of a tree so that an operation is found by its number: counts of operations, capped at the
 //! greatest `u64`.
 
-ghost use Rattle.std.specs.Prelude.{◌≡◌, IfOk, IsTrue};
+ghost use Rattle.std.specs.Prelude.{◌≡◌, ◌+◌, [], ◌∷◌, ◌++◌, min, IfOk, IsTrue, OnOk};
 ghost use Rattle.std.specs.List.{list_all};
-ghost use Rattle.cpl_sequence.specs.Marks.{body_marks, marks_of_tops, tally_of, tally_of_top};
+ghost use Rattle.cpl_sequence.specs.Marks.{body_marks, greatest_count, mark_of, marks_of_tops, tally_of, tally_of_top};
 ghost use Rattle.cpl_sequence.specs.Sound.{is_timed, is_timed_top};
 
 use crate::element::{Element, TopLoop};
@@ -51,14 +51,22 @@ pub(crate) fn marks_of_tops(alloc: Global, tops: &[TopLoop]) -> Result<Marks, Me
     let mut count: u64 = 0;
     for top in tops {
         let tally = tally_of_top(alloc, top)?;
-        marks.push(Mark {
-            before: count,
-            round: tally.round,
-            body: tally.body,
-        })?;
-        count = count.saturating_add(tally.count);
+        count = add_mark(&mut marks, count, tally)?;
     }
     Ok(Marks { count, marks })
+}
+
+/// A mark more, before which so many operations stand; how many stand behind it.
+fn add_mark(marks: &mut Items<Mark>, before: u64, tally: Tally) -> Result<u64, Memory>
+    ensures mark { OnOk result (marks.new ≡ marks.old ++ mark_of before tally.round tally.body ∷ []) }
+    ensures count { IfOk result (λ behind. behind ≡ min (before + tally.count) greatest_count) }
+{
+    marks.push(Mark {
+        before,
+        round: tally.round,
+        body: tally.body,
+    })?;
+    Ok(before.saturating_add(tally.count))
 }
 
 /// What is kept of a loop that stands in no other.
@@ -84,12 +92,7 @@ fn body_marks(alloc: Global, body: &[Element], step: u64) -> Result<Marks, Memor
     let mut count: u64 = 0;
     for element in body {
         let tally = tally_of(alloc, element, step)?;
-        marks.push(Mark {
-            before: count,
-            round: tally.round,
-            body: tally.body,
-        })?;
-        count = count.saturating_add(tally.count);
+        count = add_mark(&mut marks, count, tally)?;
     }
     Ok(Marks { count, marks })
 }
