@@ -33,7 +33,7 @@ pub use many::Many;
 pub use mem_shelf::MemShelf;
 pub use mem_sink::MemSink;
 pub use memory::Memory;
-pub use names::{first_repeat, is_letter, is_name, is_name_byte, place_of};
+pub use names::{are_name_bytes, first_repeat, is_letter, is_name, is_name_byte, place_of};
 pub use numeral::read_numeral;
 pub use rounding::{div, mul, near};
 pub use shelf::{LoadFault, Shelf};

@@ -39,8 +39,10 @@ pub fn is_name(word: &[u8]) -> bool
     }
 }
 
-/// Whether each byte may stand in a name behind its first letter.
-fn are_name_bytes(bytes: &[u8]) -> bool
+/// Whether each byte may stand in a name behind its first letter. Takes no memory.
+///
+/// Source: this project's own.
+pub fn are_name_bytes(bytes: &[u8]) -> bool
     ensures { result ≡ list_all is_name_byte bytes.now }
 {
     bytes.iter().all(|byte| is_name_byte(*byte))

@@ -1,8 +1,7 @@
 //! Arguments of native rules, one word each.
 
 ghost use Rattle.std.specs.Prelude.{◌≡◌, ◌<◌, ◌^◌, length, option_map, IfOk};
-ghost use Rattle.std.specs.List.{list_all};
-ghost use Rattle.cpl_base.specs.Words.{is_name_byte, place_of};
+ghost use Rattle.cpl_base.specs.Words.{place_of};
 ghost use Rattle.cpl_formula.specs.Arguments.{IsArgument, argument_beside, argument_here, argument_of, cell_argument, is_long_name, is_near, name_word, offset_word, offset_words};
 ghost use Rattle.cpl_formula.specs.Tokens.{token_of};
 
@@ -10,7 +9,7 @@ use crate::fault::FormulaFault;
 use crate::formula::{FARTHEST, Read, ReadName};
 use crate::lexing::token;
 use crate::tokens::Token;
-use cpl_base::{Text, ValFault, cut, is_letter, is_name_byte, place_of, read_val, split_sign};
+use cpl_base::{Text, ValFault, are_name_bytes, cut, is_letter, place_of, read_val, split_sign};
 
 /// What a native rule is given: a number in millionths, or what a formula would read at a cell.
 #[derive(Clone, Copy, Debug, PartialEq, Eq)]
@@ -92,13 +91,6 @@ fn is_long_name(word: &[u8]) -> bool
         [first, more @ ..] => is_letter(*first) && are_name_bytes(more),
         [] => false,
     }
-}
-
-/// Whether each byte may stand in a name behind its first letter.
-fn are_name_bytes(bytes: &[u8]) -> bool
-    ensures { result ≡ list_all is_name_byte bytes.now }
-{
-    bytes.iter().all(|byte| is_name_byte(*byte))
 }
 
 /// The two offsets that stand behind a `[` and before a `]` at the end.
