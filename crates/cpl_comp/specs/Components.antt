@@ -60,10 +60,10 @@ pub record IsCall (limits : Limits) (fields entry : ℕ) (arguments : List Argum
   pub inputs : slice_index limits.inputs entry ≡ length arguments
   pub arguments_are : All (IsArgument fields limits.alarms) arguments
 
--- a rule over so many fields
-abbrev pub IsRule : Limits → ℕ → Rule → Type 0
-IsRule limits fields (Plain parsed) = IsFormula limits fields parsed
-IsRule limits fields (Native entry arguments) = IsCall limits fields entry arguments
+-- A rule over so many fields.
+pub record IsRule (limits : Limits) (fields : ℕ) (rule : Rule) : Type 0 where
+  pub formula : (parsed : Parsed) → rule ≡ Plain parsed → IsFormula limits fields parsed
+  pub call : (entry : ℕ) (arguments : List Argument) → rule ≡ Native entry arguments → IsCall limits fields entry arguments
 
 -- ---- fields
 
@@ -104,16 +104,12 @@ pub record IsUnasked (field : Field) : Type 0 where
   pub needed : field.optional ≡ false
   pub later : field.at_init ≡ false
 
--- an import has no start rule; of another field no stamp is asked, and it isn't optional or taken at the start
-abbrev pub HasPart : Role → Field → Type 0
-HasPart Import field = field.start ≡ None
-HasPart role field = IsUnasked field
-
 -- A field among fields of these roles: an import without a start rule, or another with one.
 pub record IsField (limits : Limits) (roles : List Role) (field : Field) : Type 0 where
   pub named : is_field_name field.name ≡ true
   pub start : ForSome field.start (IsStart limits roles)
-  pub part : HasPart field.role field
+  pub import : field.role ≡ Import → field.start ≡ None
+  pub other : field.role ≢ Import → IsUnasked field
 
 -- Fields in the order of their tables: variables, then imports, then exports.
 abbrev pub AreInOrder : List Role → Type 0
@@ -157,11 +153,6 @@ pub record OnlySets (phase : Phase) : Type 0 where
   pub averages : phase.averages ≡ []
   pub merges : phase.merges ≡ []
 
--- what a component of this kind may not do in a phase, it doesn't
-abbrev pub SuitsKind : Kind → Phase → Type 0
-SuitsKind Model phase = OnlySets phase
-SuitsKind Mediator phase = Unit {0}
-
 -- A phase over fields of these roles: what it gives a new value and what it keeps values for are variables and exports,
 -- each once.
 pub record IsPhase (limits : Limits) (kind : Kind) (roles : List Role) (phase : Phase) : Type 0 where
@@ -175,7 +166,7 @@ pub record IsPhase (limits : Limits) (kind : Kind) (roles : List Role) (phase : 
   pub written_once : AllPairs (λ a b. a ≢ b) (written_fields phase)
   pub added_own : list_all (λ k. is_own (slice_get roles k)) (added_fields phase) ≡ true
   pub added_once : AllPairs (λ a b. a ≢ b) (added_fields phase)
-  pub suits : SuitsKind kind phase
+  pub model : kind ≡ Model → OnlySets phase
   pub halo : phase.halo ≡ halo_of (length roles) (rules_of phase)
 
 -- ---- components

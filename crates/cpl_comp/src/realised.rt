@@ -27,7 +27,7 @@ impl Model for Realised {
 
     ghost view = { λ r. record { comp = r.comp; limits = record { pets = r.pets; alarms = r.alarms; inputs = r.inputs } } };
 
-    ghost invariant = { λ r. ∥ IsComponent (record { pets = r.pets; alarms = r.alarms; inputs = r.inputs }) r.comp ∥₁ };
+    ghost invariant = { λ r. IsComponent (record { pets = r.pets; alarms = r.alarms; inputs = r.inputs }) r.comp };
 }
 
 impl Realised {
@@ -51,7 +51,7 @@ impl Realised {
     /// Source: this project's own.
     pub fn comp(&self) -> &Comp
         ensures value { result.now ≡ self.now.comp }
-        ensures component { ∥ IsComponent self.now.limits result.now ∥₁ }
+        ensures component { IsComponent self.now.limits result.now }
     {
         &self.comp
     }
@@ -61,7 +61,7 @@ impl Realised {
     /// Source: this project's own.
     pub fn into_comp(self) -> Comp
         ensures value { result ≡ self.comp }
-        ensures component { ∥ IsComponent self.limits result ∥₁ }
+        ensures component { IsComponent self.limits result }
     {
         let Realised { comp, .. } = self;
         comp
