@@ -1,0 +1,11 @@
+mod AdvertisedFacts
+mod ArgumentFacts
+mod FieldRowFacts
+mod HaloFacts
+mod NameTableFacts
+mod PhaseRowFacts
+mod RepeatFacts
+mod ResultFacts
+mod RoleFacts
+mod RowFormFacts
+mod ShortFacts

@@ -16,6 +16,7 @@ use Rattle.cpl_formula.specs.declared.formula.ReadName.{ReadName}
 use Rattle.cpl_formula.specs.declared.formula.ReadName.TheVariants as names
 use Rattle.cpl_grid.specs.Owners.{IsLayout, pets_in}
 use Rattle.cpl_comp.specs.Advertised.{Advertisement}
+use Rattle.cpl_comp.specs.FieldRows.{no_demand}
 use Rattle.cpl_comp.specs.Halos.{halo_of, has_read}
 use Rattle.cpl_comp.specs.Pets.{AreBounds}
 use Rattle.cpl_comp.specs.PhaseRows.{is_own}
@@ -205,6 +206,10 @@ pub record Realisation : Type 0 where
 abbrev pub HasShortRule : FieldRow → Type 0
 HasShortRule row = AreShort row.rule
 
+-- nothing is asked of a field that is no import
+abbrev pub IsUnaskedRow : FieldRow → Type 0
+IsUnaskedRow row = row.role ≢ Import → row.demand ≡ no_demand
+
 -- What holds of an advertisement.
 pub record IsAdvertised (ad : Advertisement) : Type 0 where
   pub bounds : ForSome ad.bounds AreBounds
@@ -213,6 +218,7 @@ pub record IsAdvertised (ad : Advertisement) : Type 0 where
   pub names : are_distinct (map (λ row. row.name) ad.fields) ≡ true
   pub order : AreInOrder (map (λ row. row.role) ad.fields)
   pub short : All HasShortRule ad.fields
+  pub unasked : All IsUnaskedRow ad.fields
   pub some_phases : 1 ≤ length ad.phases
   pub few_phases : length ad.phases ≤ 16
   pub phase_names : list_all is_name ad.phases ≡ true

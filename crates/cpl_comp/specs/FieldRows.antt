@@ -1,5 +1,5 @@
 -- The fields of a component by the rows of its tables, in the order of the tables.
-use Rattle.std.specs.Prelude.{ℕ, Bool, true, false, not, ◌&&◌, ◌||◌, if◌then◌else◌, nat_le, List, [], ◌∷◌, ◌++◌, length, filter, codes, Option, Some, None, is_some, Result, Ok, Err}
+use Rattle.std.specs.Prelude.{ℕ, Bool, true, false, not, ◌&&◌, ◌||◌, if◌then◌else◌, nat_le, List, [], ◌∷◌, ◌++◌, length, count_by, codes, Option, Some, None, is_some, Result, Ok, Err}
 use Rattle.std.specs.List.{list_all, list_any}
 use Rattle.std.specs.Option.{ok_or}
 use Rattle.std.specs.Str.{bytes_eq}
@@ -37,18 +37,22 @@ is_check word = bytes_eq word (codes "check=current") || bytes_eq word (codes "c
 abbrev pub is_option : List ℕ → Bool
 is_option word = is_check word || bytes_eq word (codes "optional") || bytes_eq word (codes "init")
 
+-- all words are options of an import
+abbrev pub are_known : List (List ℕ) → Bool
+are_known words = list_all is_option words
+
 -- at most one of the options says which time stamp an import must have
 abbrev pub has_one_check : List (List ℕ) → Bool
-has_one_check words = nat_le (length (filter is_check words)) 1
+has_one_check words = nat_le (count_by is_check words) 1
 
 -- a word stands at most once among others
 abbrev pub stands_once : List ℕ → List (List ℕ) → Bool
-stands_once word words = nat_le (length (filter (λ other. bytes_eq other word) words)) 1
+stands_once word words = nat_le (count_by (λ other. bytes_eq other word) words) 1
 
 -- the options of an import: each at most once, and one check at most
 abbrev pub are_options : List (List ℕ) → Bool
 are_options words =
-    list_all is_option words && has_one_check words && stands_once (codes "optional") words && stands_once (codes "init") words
+    are_known words && has_one_check words && stands_once (codes "optional") words && stands_once (codes "init") words
 
 -- whether a word stands among others
 abbrev pub has_word : List ℕ → List (List ℕ) → Bool

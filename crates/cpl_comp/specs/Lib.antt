@@ -5,6 +5,7 @@ pub mod Grids
 pub mod Halos
 pub mod Labels
 pub mod NameTable
+pub mod Parts
 pub mod Pets
 pub mod PhaseRows
 pub mod Realised

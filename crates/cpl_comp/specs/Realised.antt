@@ -26,12 +26,12 @@ use Rattle.cpl_comp.specs.declared.field_rows.FieldRow.{FieldRow}
 
 -- ---- the grid
 
--- the decomposed grid of a component, of so many PETs in all
-abbrev pub layout_in : List Entry → Advertisement → ℕ → Result Layout CompFault
-layout_in entries ad pets =
-    grid_in (own_values entries ad.name (codes "_grid")) >>= (λ grid.
-    blocks_in (pet_count_in ad.bounds pets) (own_values entries ad.name (codes "_decomp")) >>= (λ blocks.
-    layout_of grid (first_pet_in ad.bounds) (pet_count_in ad.bounds pets) blocks))
+-- the decomposed grid of a component, which has so many PETs from the first on
+abbrev pub layout_in : List Entry → List ℕ → (first_pet pets : ℕ) → Result Layout CompFault
+layout_in entries component first_pet pets =
+    grid_in (own_values entries component (codes "_grid")) >>= (λ grid.
+    blocks_in pets (own_values entries component (codes "_decomp")) >>= (λ blocks.
+    layout_of grid first_pet pets blocks))
 
 -- ---- start rules
 
@@ -130,7 +130,7 @@ phases_with scope entries component before (label ∷ labels) =
 -- the component of an advertisement, of so many PETs in all and over these alarms and entries, or the first fault
 unfoldable pub realised_component : List Entry → Advertisement → ℕ → List (List ℕ) → List EntrySign → Result Comp CompFault
 realised_component entries ad pets alarms signs =
-    layout_in entries ad pets >>= (λ layout.
+    layout_in entries ad.name (first_pet_in ad.bounds) (pet_count_in ad.bounds pets) >>= (λ layout.
     substep_in ad.kind (own_values entries ad.name (codes "_substep")) >>= (λ substep.
     started_with (start_scope ad.fields alarms signs) [] ad.fields >>= (λ fields.
     phases_with (phase_scope ad alarms signs) entries ad.name [] ad.phases >>= (λ phases.

@@ -5,8 +5,9 @@ ghost use Rattle.std.specs.List.{list_all};
 ghost use Rattle.cpl_base.specs.Gives.{Gives};
 ghost use Rattle.cpl_base.specs.Words.{is_name};
 ghost use Rattle.cpl_comp.specs.Advertised.{advertised_component, few_phases, phase_names_in};
+ghost use Rattle.cpl_comp.specs.Parts.{advertisement_of};
 
-use crate::advertised::Advertised;
+use crate::advertised::{Advertised, Parts};
 use crate::fault::CompFault;
 use crate::field_rows::{copied, fields_in};
 use crate::labels::own_values;
@@ -35,7 +36,6 @@ const MOST_PHASES: usize = 16;
 /// `PhaseTwice` or `TooManyPhases` of the phases. `Memory` where memory runs out.
 ///
 /// Source: NUOPC Layer Reference, advertised fields; labels and refusals are this project's own.
-#[tactic(auto, unfolding(crate::specs::Advertised::advertised_component))]
 pub fn advertise(
     alloc: Global,
     items: &Items,
@@ -44,12 +44,35 @@ pub fn advertise(
 ) -> Result<Advertised, CompFault>
     ensures answer { Gives CompFault.Memory (λ advertised. advertised) result (advertised_component items.now name.now dict.now) }
 {
-    let kind = kind_in(own_values(alloc, items, name.bytes(), b"_kind")?)?;
-    let bounds = bounds_in(own_values(alloc, items, name.bytes(), b"_petlist_bounds")?)?;
-    let fields = fields_in(alloc, dict, items, name.bytes())?;
-    let phases = phase_names_in(alloc, own_values(alloc, items, name.bytes(), b"_phases")?)?;
-    let name = name.copy(alloc)?;
-    Ok(Advertised::new(name, kind, bounds, fields, phases))
+    let parts = read_parts(alloc, items, name.bytes(), dict)?;
+    let _entries = items.entries();
+    Ok(Advertised::new(parts))
+}
+
+/// What is read of a component.
+#[tactic(auto, unfolding(crate::specs::Advertised::advertised_component))]
+fn read_parts(
+    alloc: Global,
+    items: &Items,
+    name: &[u8],
+    dict: &Dict,
+) -> Result<Parts, CompFault>
+    ensures { Gives CompFault.Memory advertisement_of result (advertised_component items.now name.now dict.now) }
+{
+    let kind = own_values(alloc, items, name, b"_kind")?;
+    let kind = kind_in(kind)?;
+    let bounds = own_values(alloc, items, name, b"_petlist_bounds")?;
+    let bounds = bounds_in(bounds)?;
+    let fields = fields_in(alloc, dict, items, name)?;
+    let phases = own_values(alloc, items, name, b"_phases")?;
+    let phases = phase_names_in(alloc, phases)?;
+    Ok(Parts {
+        name: Text::of(alloc, name)?,
+        kind,
+        bounds,
+        fields,
+        phases,
+    })
 }
 
 /// The names of a component's phases: one of the name `run`, where none are given.

@@ -2,7 +2,7 @@
 
 ghost use Rattle.std.specs.Prelude.{◌≡◌};
 ghost use Rattle.std.specs.Str.{bytes_eq};
-ghost use Rattle.cpl_comp.specs.FieldRows.{are_options, demand_in, export_parts, field_parts, has_one_check, has_word, import_parts, is_check, is_equals, is_option, is_standard_name, no_demand, stands_once, var_parts, wanted_in};
+ghost use Rattle.cpl_comp.specs.FieldRows.{are_known, are_options, demand_in, export_parts, field_parts, has_one_check, has_word, import_parts, is_check, is_equals, is_option, is_standard_name, no_demand, stands_once, var_parts, wanted_in};
 ghost use Rattle.cpl_comp.specs.Views.{parts_view};
 
 use crate::component::{Role, Wanted};
@@ -146,10 +146,17 @@ fn is_standard_name(word: &[u8]) -> bool
 fn are_options(words: &[Text]) -> bool
     ensures { result ≡ are_options words.now }
 {
-    words.iter().all(|word| is_option(word))
+    are_known(words)
         && has_one_check(words)
         && stands_once(b"optional", words)
         && stands_once(b"init", words)
+}
+
+/// Whether all words are options of an import.
+fn are_known(words: &[Text]) -> bool
+    ensures { result ≡ are_known words.now }
+{
+    words.iter().all(|word| is_option(word))
 }
 
 /// Whether at most one of the options says which time stamp an import must have.

@@ -1,16 +1,20 @@
 //! The grid of a component, how it is cut into blocks, and its substep.
 
 ghost use Rattle.std.specs.Prelude.{◌≡◌, ◌≤◌, ◌+◌, ◌^◌, IfOk, IfSome, option_copied, option_map};
+ghost use Rattle.cpl_base.specs.Gives.{Gives};
 ghost use Rattle.cpl_grid.specs.Grid.{IsGrid};
 ghost use Rattle.cpl_comp.specs.Grids.{block_words, blocks_in, count_pair, few_cells, grid_in, grid_words, layout_of, substep_in, substep_of, substep_words};
+ghost use Rattle.cpl_comp.specs.Realised.{layout_in};
 ghost use Rattle.cpl_comp.specs.Views.{shape_view};
 
 use crate::component::Kind;
 use crate::fault::CompFault;
 use crate::field_words::is_word;
+use crate::labels::own_values;
 use cpl_base::{Text, number_between};
-use cpl_config::Row;
+use cpl_config::{Items, Row};
 use cpl_grid::{Decomp, Grid};
+use std::alloc::Global;
 
 /// A grid has at most so many cells.
 const MOST_CELLS: u128 = 1_048_576;
@@ -35,8 +39,24 @@ pub(crate) struct Shape {
     pub periodic: bool,
 }
 
+/// The decomposed grid of a component, which has so many PETs from the first on.
+pub(crate) fn layout_in(
+    alloc: Global,
+    items: &Items,
+    component: &[u8],
+    first_pet: u8,
+    pets: u8,
+) -> Result<Decomp, CompFault>
+    requires { (1 ≤ pets) × (first_pet + pets ≤ 64) }
+    ensures { Gives CompFault.Memory (λ decomp. decomp) result (layout_in items.now component.now first_pet pets) }
+{
+    let grid = grid_in(own_values(alloc, items, component, b"_grid")?)?;
+    let blocks = blocks_in(pets, own_values(alloc, items, component, b"_decomp")?)?;
+    layout_of(grid, first_pet, pets, blocks)
+}
+
 /// The grid of a component, of at most 2^20 cells.
-pub(crate) fn grid_in(row: Option<&Row>) -> Result<Grid, CompFault>
+fn grid_in(row: Option<&Row>) -> Result<Grid, CompFault>
     ensures value { result ≡ grid_in (option_copied row.entry) }
     ensures grid { IfOk result IsGrid }
 {
@@ -101,7 +121,7 @@ fn count_pair(most: u64, first: &[u8], second: &[u8]) -> Option<(u64, u64)>
 
 /// How many blocks of columns and of rows a component's grid is cut into: one of columns for each of its
 /// PETs, where they aren't given.
-pub(crate) fn blocks_in(pets: u8, row: Option<&Row>) -> Result<(u32, u32), CompFault>
+fn blocks_in(pets: u8, row: Option<&Row>) -> Result<(u32, u32), CompFault>
     requires { 1 ≤ pets }
     ensures value { result ≡ blocks_in pets (option_copied row.entry) }
     ensures columns { IfOk result (λ blocks. (1 ≤ blocks.0) × (blocks.0 ≤ 2 ^ 20)) }
@@ -132,7 +152,7 @@ fn block_words(words: &[Text]) -> Option<(u32, u32)>
 }
 
 /// The decomposition of a grid into blocks, one for each PET from the first on.
-pub(crate) fn layout_of(
+fn layout_of(
     grid: Grid,
     first_pet: u8,
     pets: u8,

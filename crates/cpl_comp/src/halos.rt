@@ -1,6 +1,6 @@
 //! What rules read beside the cell.
 
-ghost use Rattle.std.specs.Prelude.{◌≡◌, ◌≤◌, filter, IfOk};
+ghost use Rattle.std.specs.Prelude.{◌≡◌, ◌<◌, ◌≤◌, Some, filter, slice_get, IfOk};
 ghost use Rattle.std.specs.List.{list_any, range_with_len};
 ghost use Rattle.cpl_comp.specs.Halos.{halo_of, has_read, is_cell_of, is_field_at, is_read_at, is_read_beside, is_wanted, near_offsets};
 ghost use Rattle.cpl_comp.specs.Views.{rules_in};
@@ -63,12 +63,21 @@ fn offsets_of(alloc: Global, rules: &[&Rule]) -> Result<Many<(i8, i8)>, Memory>
     ensures { IfOk result (λ offsets. offsets ≡ filter (λ offset. list_any (has_read (is_read_at offset)) (rules_in rules.now)) near_offsets) }
 {
     let mut offsets = Vec::new(alloc);
-    for offset in NEAR {
+    for place in 0..NEAR.len() {
+        let offset = near_offset(place);
         if some_has(ReadKind::At(offset), rules) {
             offsets.push(offset)?;
         }
     }
     Ok(Many::of(offsets))
+}
+
+/// The neighbour of this place, row by row.
+fn near_offset(place: usize) -> (i8, i8)
+    requires { place < 24 }
+    ensures { slice_get near_offsets place ≡ Some result }
+{
+    NEAR[place]
 }
 
 /// The fields that are read at a neighbour.

@@ -13,11 +13,14 @@ mod halos;
 mod labels;
 mod pets;
 mod phase_rows;
+mod phases;
 mod realised;
+mod realising;
 mod row_forms;
 mod row_table;
 mod rules;
 mod scope;
+mod starts;
 
 pub use advertised::Advertised;
 pub use advertising::advertise;
@@ -27,3 +30,4 @@ pub use component::{
 pub use cpl_formula::Argument;
 pub use fault::CompFault;
 pub use realised::Realised;
+pub use realising::realise;

@@ -1,6 +1,7 @@
 //! What the rows of a phase say so far.
 
-ghost use Rattle.std.specs.Prelude.{◌≡◌, length, OnOk, OnErr};
+ghost use Rattle.std.specs.Prelude.{◌≡◌, ◌==◌, length, OnOk};
+ghost use Rattle.std.specs.List.{list_any};
 ghost use Rattle.cpl_comp.specs.PhaseRows.{is_added, is_written, no_rows, with_add, with_average, with_merge, with_range, with_set};
 
 use crate::component::{MergeRow, RangeRow, SetRow};
@@ -48,16 +49,16 @@ impl RowTable {
     pub fn is_written(&self, field: u16) -> bool
         ensures { result ≡ is_written self.now field }
     {
-        self.sets.iter().any(|row| row.field == field)
-            || self.merges.iter().any(|row| row.field == field)
-            || self.averages.iter().any(|other| *other == field)
+        sets_field(self.sets.as_slice(), field)
+            || merges_field(self.merges.as_slice(), field)
+            || has_field(self.averages.as_slice(), field)
     }
 
     /// Whether a value is kept for a field.
     pub fn is_added(&self, field: u16) -> bool
         ensures { result ≡ is_added self.now field }
     {
-        self.adds.iter().any(|row| row.field == field)
+        sets_field(self.adds.as_slice(), field)
     }
 
     /// How many averages there are.
@@ -113,4 +114,25 @@ impl RowTable {
         self.ranges.push(row)?;
         Ok(())
     }
+}
+
+/// Whether a rule of these rows is a field's.
+fn sets_field(rows: &[SetRow], field: u16) -> bool
+    ensures { result ≡ list_any (λ row. row.field == field) rows.now }
+{
+    rows.iter().any(|row| row.field == field)
+}
+
+/// Whether a sum of these rows is a field's.
+fn merges_field(rows: &[MergeRow], field: u16) -> bool
+    ensures { result ≡ list_any (λ row. row.field == field) rows.now }
+{
+    rows.iter().any(|row| row.field == field)
+}
+
+/// Whether a field is among these.
+fn has_field(fields: &[u16], field: u16) -> bool
+    ensures { result ≡ list_any (λ other. other == field) fields.now }
+{
+    fields.iter().any(|other| *other == field)
 }

@@ -126,14 +126,11 @@ fn arguments_of(
     ensures { Gives FormulaFault.Memory (λ arguments. arguments) result (arguments_with (scope_view scope.entry) [] at words.now) }
 {
     let mut arguments = Vec::with_capacity(alloc, words.len())?;
-    let mut at = at;
-    for (i, word) in words.iter().enumerate() {
-        if i > 0 {
-            at += 1;
-        }
-        let argument = read_argument(word.bytes(), at, scope.fields, scope.alarms)?;
+    let mut place = u64::from(at);
+    for word in words {
+        let argument = read_argument(word.bytes(), place as u32, scope.fields, scope.alarms)?;
         arguments.push(argument)?;
-        at += word.bytes().len() as u32;
+        place += word.bytes().len() as u64 + 1;
     }
     Ok(Many::of(arguments))
 }
@@ -166,7 +163,14 @@ fn entry_of(signs: &[EntrySign], label: &[u8]) -> Option<(u16, u8)>
     ensures place { option_map (λ entry. entry.0) result ≡ entry_of signs.now label.now }
     ensures inputs { IfSome result (λ entry. inputs_in (slice_get signs.now entry.0) ≡ entry.1) }
 {
-    let place = signs.iter().position(|sign| sign.label.bytes() == label)?;
-    let sign = signs.get(place)?;
-    Some((place as u16, sign.inputs))
+    let place = entry_place(signs, label)?;
+    Some((place as u16, signs[place].inputs))
+}
+
+/// The place of the first entry of a label, if there is one.
+fn entry_place(signs: &[EntrySign], label: &[u8]) -> Option<usize>
+    ensures place { result ≡ entry_of signs.now label.now }
+    ensures below { IfSome result (λ place. place < length signs.now) }
+{
+    signs.iter().position(|sign| sign.label.bytes() == label)
 }
