@@ -15,13 +15,13 @@ use Rattle.cpl_comp.specs.Labels.{own_values}
 use Rattle.cpl_comp.specs.Pets.{AreBounds, bounds_in, kind_in, number_pair}
 use Rattle.cpl_comp.specs.declared.fault.CompFault.TheVariants.{BadValue, PetOutOfRange, PhaseTwice, TooManyPhases}
 use Rattle.cpl_comp.proofs.FieldRowFacts.{AreOwnFields, fields_in-are}
-use Rattle.cpl_comp.proofs.ResultFacts.{bind-IfOk, bind-fact, fact-ok, ok_or-IfOk, test-IfOk}
+use Rattle.cpl_comp.proofs.ResultFacts.{bind-IfOk, bind-fact, ok-fact, some-IfOk, test-IfOk}
 
 -- bounds that were given can be
 bounds_in-are : (values : Option Row) → IfOk (bounds_in values) (λ bounds. ForSome bounds AreBounds)
 bounds_in-are None = λ bounds is. absurd (cc)
 bounds_in-are (Some row) =
-    ok_or-IfOk (λ bounds. ForSome bounds AreBounds) (number_pair row.words) (BadValue row.line) _ (λ bounds _.
+    some-IfOk (λ bounds. ForSome bounds AreBounds) (number_pair row.words) (BadValue row.line) _ (λ bounds _.
     test-IfOk (λ bounds. ForSome bounds AreBounds) (leb bounds.0 bounds.1 && leb bounds.1 63) (PetOutOfRange row.line) _ (λ test.
     let both = and_parts (leb bounds.0 bounds.1) (leb bounds.1 63) test in
     λ found is.
@@ -77,4 +77,4 @@ advertised_component-is entries name dict short =
 -- what was advertised of a component
 pub advertised-is : (entries : List Entry) (name : List ℕ) (dict : Dictionary) (ad : Advertisement) → All (λ entry. HasShortRows entry.item) entries → advertised_component entries name dict ≡ Ok ad → IsAdvertised ad
 advertised-is entries name dict ad short is =
-    fact-ok IsAdvertised (advertised_component entries name dict) ad (advertised_component-is entries name dict short) is
+    ok-fact IsAdvertised (advertised_component entries name dict) ad (advertised_component-is entries name dict short) is

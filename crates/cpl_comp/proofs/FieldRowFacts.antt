@@ -23,7 +23,7 @@ use Rattle.cpl_comp.specs.declared.component.Role.TheVariants.{Var, Import, Expo
 use Rattle.cpl_comp.specs.declared.fault.CompFault.TheVariants.{BadValue, FieldTwice, TooManyFields}
 use Rattle.cpl_comp.specs.declared.field_rows.FieldRow.{FieldRow}
 use Rattle.cpl_comp.proofs.RepeatFacts.{are_distinct-push}
-use Rattle.cpl_comp.proofs.ResultFacts.{bind-IfOk, bind-fact, cond-IfOk, map-IfOk, ok_or-IfOk, test-IfOk}
+use Rattle.cpl_comp.proofs.ResultFacts.{bind-IfOk, bind-fact, cond-IfOk, map-IfOk, some-IfOk, test-IfOk}
 use Rattle.cpl_comp.proofs.RoleFacts.{copies, order-three}
 use Rattle.cpl_comp.proofs.ShortFacts.{join-tail, own_rows-short, short-below}
 
@@ -112,7 +112,7 @@ pub record IsFieldBehind (role : Role) (before : List FieldRow) (field : FieldRo
 -- the field of a short row
 field_of-is : (dict : Dictionary) (role : Role) (before : List FieldRow) (row : Row) → IsShort row → IfOk (field_of dict role before row) (IsFieldBehind role before)
 field_of-is dict role before row short =
-    ok_or-IfOk (IsFieldBehind role before) (field_parts role row.words) (BadValue row.line) _ (λ parts is.
+    some-IfOk (IsFieldBehind role before) (field_parts role row.words) (BadValue row.line) _ (λ parts is.
     test-IfOk (IsFieldBehind role before) (not (has_field parts.name before)) (FieldTwice row.line) _ (λ new.
     bind-IfOk (IsFieldBehind role before) (standard_check dict role row.line parts) _ (λ _ _.
     let are = field_parts-are role row.words parts is in

@@ -1,8 +1,9 @@
 -- What is picked from a list, one member after another.
-use Rattle.std.proofs.Common.{◌≡◌, ℕ, suc, zero, ◌+◌, ◌<◌, Bool, true, false, cond, List, [], ◌∷◌, ◌++◌, length, take, Some, refl, sym, ap, ◌∙◌, arith}
-use Rattle.std.proofs.lemmas.List.{append-nil}
-use Rattle.std.proofs.lemmas.List.Elements.{filter-append}
-use Rattle.std.specs.List.{filter, range_with_len, slice_get}
+use Rattle.std.proofs.Common.{◌≡◌, ℕ, suc, zero, ◌+◌, ◌<◌, Bool, true, false, cond, List, [], ◌∷◌, ◌++◌, length, get_or, take, Option, Some, None, refl, sym, ap, ◌∙◌, arith}
+use Rattle.std.proofs.lemmas.List.{append-nil, take_more}
+use Rattle.std.proofs.lemmas.List.Elements.{filter-append, filter_map-append}
+use Rattle.std.specs.List.{cons_option, filter, filter_map, range_with_len, slice_get}
+use Rattle.std.specs.Option.{option_to_list}
 
 -- one number more behind others
 range_with_len-suc : (a n : ℕ) → range_with_len a (suc n) ≡ range_with_len a n ++ (a + n) ∷ []
@@ -54,3 +55,14 @@ filter-take_passes test xs k x done after there passes so_far more =
 pub filter-take_fails : {A : Type 0} (test : A → Bool) (xs : List A) (k : ℕ) (x : A) (done : List A) → slice_get xs k ≡ Some x → test x ≡ false → done ≡ filter test (take k xs) → done ≡ filter test (take (k + 1) xs)
 filter-take_fails test xs k x done there fails so_far =
     filter-fails test (take k xs) done x fails so_far ∙ ap (filter test) (sym (take-member xs k x there))
+
+-- an answer in front of none
+cons_option-nil : {B : Type 0} (o : Option B) → cons_option o [] ≡ option_to_list o
+cons_option-nil None = refl
+cons_option-nil (Some y) = refl
+
+-- the answers of one member more of a list
+pub filter_map-take : {A B : Type 0} (f : A → Option B) (xs : List A) (k : ℕ) (x : A) → k < length xs → x ≡ get_or xs k x → filter_map f (take (k + 1) xs) ≡ filter_map f (take k xs) ++ option_to_list (f x)
+filter_map-take {A} {B} f xs k x there is =
+    ap (filter_map f) (take_more xs k x there) ∙ filter_map-append f (take k xs) (get_or xs k x ∷ []) ∙ ap (λ y. filter_map f (take k xs) ++ filter_map f (y ∷ [])) (sym is)
+    ∙ ap (λ (zs : List B). filter_map f (take k xs) ++ zs) (cons_option-nil (f x))

@@ -1,67 +1,88 @@
--- Rows of phases whose words are short: so are those of their rules.
-use Rattle.std.proofs.Common.{◌≡◌, ℕ, ℤ, ◌≤◌, Bool, true, false, cond, ◌&&◌, int_le, List, [], ◌∷◌, length, Result, Ok, Err, codes, arith}
-use Rattle.std.specs.List.{join_with_byte}
+-- What holds of a row by its form alone: a range is one of values, and the words of products are two by two.
+use Rattle.std.proofs.Common.{◌≡◌, ℕ, ℤ, ◌≤ℤ◌, Bool, true, false, ◌&&◌, if◌then◌else◌, int_le, List, [], ◌∷◌, codes, Result, Ok, Err, IfOk, refl, arith}
 use Rattle.std.specs.Str.{bytes_eq}
+use Rattle.std.proofs.lemmas.Bool.{and_parts}
+use Rattle.std.proofs.lemmas.Int.{ints}
+use Rattle.cpl_base.specs.Numbers.{IsValue, greatest}
 use Rattle.cpl_base.specs.Numerals.{value_of}
 use Rattle.cpl_base.specs.declared.value.ValFault.{ValFault}
+use Rattle.cpl_base.proofs.NumeralsFacts.{numeral_of-bound}
 use Rattle.cpl_comp.specs.FieldRows.{is_equals}
-use Rattle.cpl_comp.specs.RowForms.{RowForm, add, add_form, check, merge, are_terms, assign_form, average_form, check_form, check_range, keyword_form, merge_form, no_form, row_form}
-use Rattle.cpl_comp.specs.Scopes.{AreShort, HasShortWords}
-use Rattle.cpl_comp.proofs.ShortFacts.{join-tail, short-below}
+use Rattle.cpl_comp.specs.RowForms.{RowForm, check, add, average, merge, no_form, add_form, are_terms, assign_form, average_form, check_form, check_range, keyword_form, merge_form, row_form}
 
--- words without the first two are short where all are
-short-two : (a b : List ℕ) (words : List (List ℕ)) → AreShort (a ∷ b ∷ words) → AreShort words
-short-two a b words short =
-    let one = join-tail b words in
-    let two = join-tail a (b ∷ words) in
-    omega arith
+-- Two values in order.
+pub record IsSpan (low high : ℤ) : Type 0 where
+  pub least : IsValue low
+  pub most : IsValue high
+  pub ordered : low ≤ℤ high
 
--- a form that is chosen by a test
-cond-short : (b : Bool) (x y : RowForm) → HasShortWords x → HasShortWords y → HasShortWords (cond b x y)
-cond-short true x y is_x is_y = is_x
-cond-short false x y is_x is_y = is_y
+-- a form whose numbers and words are as they should be
+abbrev pub IsForm : RowForm → Type 0
+IsForm (check field low high) = IsSpan low high
+IsForm (merge field words) = are_terms words ≡ true
+IsForm form = Unit {0}
+
+-- one of two forms, by what the test says
+form-if : (b : Bool) (x y : RowForm) → (b ≡ true → IsForm x) → IsForm y → IsForm (if b then x else y)
+form-if true x y first second = first refl
+form-if false x y first second = second
+
+-- an integer that the test finds no greater
+int_le-true : (low high : ℤ) → int_le low high ≡ true → low ≤ℤ high
+int_le-true low high is = grind (arith, ints)
+
+-- a range of two numbers that were read
+check_range-form : (field : List ℕ) (low high : Result ℤ ValFault) → IfOk low IsValue → IfOk high IsValue → IsForm (check_range field low high)
+check_range-form field (Ok low) (Ok high) least most =
+    form-if (int_le low high) (check field low high) no_form (λ is. record { least = least; most = most; ordered = int_le-true low high is }) tt
+check_range-form field (Ok low) (Err e) least most = tt
+check_range-form field (Err e) high least most = tt
+
+-- words behind `check`
+check_form-form : (words : List (List ℕ)) → IsForm (check_form words)
+check_form-form [] = tt
+check_form-form (field ∷ []) = tt
+check_form-form (field ∷ low ∷ []) = tt
+check_form-form (field ∷ low ∷ high ∷ []) =
+    check_range-form field (value_of low) (value_of high) (numeral_of-bound 6 greatest low) (numeral_of-bound 6 greatest high)
+check_form-form (field ∷ low ∷ high ∷ word ∷ words) = tt
+
+-- words behind `add`
+add_form-form : (words : List (List ℕ)) → IsForm (add_form words)
+add_form-form [] = tt
+add_form-form (field ∷ []) = tt
+add_form-form (field ∷ equals ∷ []) = tt
+add_form-form (field ∷ equals ∷ word ∷ words) = form-if (is_equals equals) (add field (word ∷ words)) no_form (λ is. tt) tt
+
+-- words behind `average`
+average_form-form : (words : List (List ℕ)) → IsForm (average_form words)
+average_form-form [] = tt
+average_form-form (field ∷ []) = tt
+average_form-form (field ∷ word ∷ words) = tt
+
+-- words behind `merge`
+merge_form-form : (words : List (List ℕ)) → IsForm (merge_form words)
+merge_form-form [] = tt
+merge_form-form (field ∷ []) = tt
+merge_form-form (field ∷ equals ∷ words) =
+    form-if (is_equals equals && are_terms words) (merge field words) no_form (λ is. (and_parts (is_equals equals) (are_terms words) is).1) tt
+
+-- words in front of which a keyword stands
+keyword_form-form : (word : List ℕ) (words : List (List ℕ)) → IsForm (keyword_form word words)
+keyword_form-form word words =
+    form-if (bytes_eq word (codes "check")) (check_form words) _ (λ is. check_form-form words)
+    (form-if (bytes_eq word (codes "add")) (add_form words) _ (λ is. add_form-form words)
+    (form-if (bytes_eq word (codes "average")) (average_form words) _ (λ is. average_form-form words)
+    (form-if (bytes_eq word (codes "merge")) (merge_form words) no_form (λ is. merge_form-form words) tt)))
 
 -- an assignment
-assign-short : (field : List ℕ) (words : List (List ℕ)) → AreShort words → HasShortWords (assign_form field words)
-assign-short field [] short = tt
-assign-short field (word ∷ words) short = short
+assign_form-form : (field : List ℕ) (words : List (List ℕ)) → IsForm (assign_form field words)
+assign_form-form field [] = tt
+assign_form-form field (word ∷ words) = tt
 
--- a range
-check-range_short : (field : List ℕ) (low high : Result ℤ ValFault) → HasShortWords (check_range field low high)
-check-range_short field (Ok low) (Ok high) = cond-short (int_le low high) (check field low high) no_form tt tt
-check-range_short field (Ok low) (Err e) = tt
-check-range_short field (Err e) high = tt
-
-check-short : (words : List (List ℕ)) → HasShortWords (check_form words)
-check-short (field ∷ low ∷ high ∷ []) = check-range_short field (value_of low) (value_of high)
-check-short words = tt
-
--- a kept value
-add-short : (words : List (List ℕ)) → AreShort words → HasShortWords (add_form words)
-add-short (field ∷ equals ∷ word ∷ words) short = cond-short (is_equals equals) (add field (word ∷ words)) no_form (short-two field equals (word ∷ words) short) tt
-add-short words short = tt
-
--- a mean, and a sum
-average-short : (words : List (List ℕ)) → HasShortWords (average_form words)
-average-short (field ∷ []) = tt
-average-short words = tt
-
-merge-short : (words : List (List ℕ)) → HasShortWords (merge_form words)
-merge-short (field ∷ equals ∷ words) = cond-short (is_equals equals && are_terms words) (merge field words) no_form tt tt
-merge-short words = tt
-
--- a row by its first word
-keyword-short : (word : List ℕ) (words : List (List ℕ)) → AreShort words → HasShortWords (keyword_form word words)
-keyword-short word words short =
-    let merges = cond-short (bytes_eq word (codes "merge")) (merge_form words) no_form (merge-short words) tt in
-    let averages = cond-short (bytes_eq word (codes "average")) (average_form words) _ (average-short words) merges in
-    let adds = cond-short (bytes_eq word (codes "add")) (add_form words) _ (add-short words short) averages in
-    cond-short (bytes_eq word (codes "check")) (check_form words) _ (check-short words) adds
-
--- a row whose words are short
-pub row_form-short : (words : List (List ℕ)) → AreShort words → HasShortWords (row_form words)
-row_form-short [] short = tt
-row_form-short (word ∷ []) short = tt
-row_form-short (word ∷ next ∷ words) short =
-    cond-short (is_equals next) (assign_form word words) (keyword_form word (next ∷ words)) (assign-short word words (short-two word next words short))
-    (keyword-short word (next ∷ words) (short-below (next ∷ words) (word ∷ next ∷ words) (join-tail word (next ∷ words)) short))
+-- the words of a row
+pub row_form-form : (words : List (List ℕ)) → IsForm (row_form words)
+row_form-form [] = tt
+row_form-form (word ∷ []) = tt
+row_form-form (word ∷ next ∷ words) =
+    form-if (is_equals next) (assign_form word words) (keyword_form word (next ∷ words)) (λ is. assign_form-form word words) (keyword_form-form word (next ∷ words))

@@ -1,12 +1,15 @@
 //! Reading a component to its last rule.
 
-ghost use Rattle.std.specs.Prelude.{◌≡◌, length, map, IfOk};
+ghost use Rattle.std.specs.Prelude.{◌≡◌, ◌<◌, ◌≤◌, ◌^◌, [], codes, length, map, IfOk};
+ghost use Rattle.std.specs.List.{All};
 ghost use Rattle.cpl_base.specs.Gives.{Gives};
-ghost use Rattle.cpl_comp.specs.Components.{IsAskedOver, limits_of};
-ghost use Rattle.cpl_comp.specs.Realised.{realised_component};
+ghost use Rattle.cpl_comp.specs.Components.{HasShortRule, IsAskedOver, limits_of};
+ghost use Rattle.cpl_comp.specs.Grids.{substep_in};
+ghost use Rattle.cpl_comp.specs.Labels.{own_values};
+ghost use Rattle.cpl_comp.specs.Realised.{realised_component, start_scope, started_with};
 
 use crate::advertised::Advertised;
-use crate::component::{Comp, Role};
+use crate::component::{Comp, Field, Kind, Role};
 use crate::fault::CompFault;
 use crate::field_rows::FieldRow;
 use crate::grids::{layout_in, substep_in};
@@ -91,31 +94,25 @@ fn read_component(
 {
     let first_pet = advertised.first_pet();
     let count = advertised.pet_count(pets);
-    let decomp = layout_in(alloc, items, advertised.name(), first_pet, count)?;
-    let substep = own_values(alloc, items, advertised.name(), b"_substep")?;
-    let substep = substep_in(advertised.kind(), substep)?;
-    let start_names = start_names(alloc, advertised.fields())?;
-    let roles = roles_of(alloc, advertised.fields())?;
-    let names = names_of(alloc, advertised.fields())?;
     let kind = advertised.kind();
+    let decomp = layout_in(alloc, items, advertised.name(), first_pet, count)?;
+    let substep = substep(alloc, items, advertised.name(), kind)?;
+    let names = names_of(alloc, advertised.fields())?;
+    let roles = roles_of(alloc, advertised.fields())?;
     let (name, rows, labels) = advertised.into_parts();
-    let start_scope = Scope {
-        fields: start_names.as_slice(),
+    let fields = start_fields(alloc, rows, alarms, signs)?;
+    let rules = Scope {
+        fields: names.as_slice(),
         alarms,
         signs,
     };
-    let fields = started(alloc, start_scope, rows)?;
-    let start_halo = start_halo(alloc, fields.items())?;
     let scope = PhaseScope {
         kind,
         roles: roles.as_slice(),
-        rules: Scope {
-            fields: names.as_slice(),
-            alarms,
-            signs,
-        },
+        rules,
     };
     let phases = phases_of(alloc, scope, items, name.bytes(), labels)?;
+    let start_halo = start_halo(alloc, fields.items())?;
     Ok(Comp {
         name,
         kind,
@@ -127,6 +124,43 @@ fn read_component(
         phases,
         start_halo,
     })
+}
+
+/// The substep of a component.
+fn substep(
+    alloc: Global,
+    items: &Items,
+    component: &[u8],
+    kind: Kind,
+) -> Result<Option<i64>, CompFault>
+    ensures { Gives CompFault.Memory (λ substep. substep) result (substep_in kind (own_values items.now component.now (codes "_substep"))) }
+{
+    let values = own_values(alloc, items, component, b"_substep")?;
+    substep_in(kind, values)
+}
+
+/// The fields of rows with their start rules, over their imports.
+fn start_fields(
+    alloc: Global,
+    rows: Many<FieldRow>,
+    alarms: &[Text],
+    signs: &[EntrySign],
+) -> Result<Many<Field>, CompFault>
+    requires few { length rows ≤ 64 }
+    requires alarms { length alarms.now ≤ 64 }
+    requires signs { length signs.now < 2 ^ 16 }
+    requires short { All HasShortRule rows }
+    ensures gives { Gives CompFault.Memory (λ fields. fields) result (started_with (start_scope rows alarms.now signs.now) [] rows) }
+    ensures count { IfOk result (λ fields. length fields ≡ length rows) }
+{
+    let names = start_names(alloc, rows.items())?;
+    let scope = Scope {
+        fields: names.as_slice(),
+        alarms,
+        signs,
+    };
+    let fields = started(alloc, scope, rows)?;
+    Ok(fields)
 }
 
 /// What each of the fields is to the component.
