@@ -1,5 +1,6 @@
 pub mod Advertised
 pub mod Components
+pub mod Examples
 pub mod FieldRows
 pub mod Grids
 pub mod Halos

@@ -4,6 +4,7 @@
 mod advertised;
 mod advertising;
 mod component;
+mod examples;
 mod fault;
 mod field_rows;
 mod field_table;
@@ -28,6 +29,7 @@ pub use component::{
     Comp, Field, Halo, Kind, MergeRow, Phase, RangeRow, Role, Rule, SetRow, Wanted,
 };
 pub use cpl_formula::Argument;
+pub use examples::component_examples;
 pub use fault::CompFault;
 pub use realised::Realised;
 pub use realising::realise;
