@@ -1,8 +1,13 @@
 -- An argument that a word stands for is in range.
-use Rattle.std.proofs.Common.{◌≡◌, ℕ, ◌<◌, ℤ, unsigned_abs, Bool, true, false, ◌&&◌, if◌then◌else◌, List, length, Option, Some, None, Ok, Err, IfOk, IfSome, refl, arith}
+use Rattle.std.proofs.Common.{◌≡◌, ℕ, ◌<◌, ℤ, unsigned_abs, Bool, true, false, ◌&&◌, if◌then◌else◌, List, length, Option, Some, None, Result, Ok, Err, IfOk, IfSome, refl, arith}
 use Rattle.std.proofs.lemmas.Bool.{and_parts, leb-true}
+use Rattle.cpl_base.specs.Numbers.{IsValue, greatest}
+use Rattle.cpl_base.specs.Numerals.{value_of}
 use Rattle.cpl_base.specs.Words.{place_of}
-use Rattle.cpl_formula.specs.Arguments.{IsArgument, argument_beside, argument_here, cell_argument, is_near}
+use Rattle.cpl_base.specs.declared.value.ValFault.{ValFault}
+use Rattle.cpl_base.specs.declared.value.ValFault.TheVariants as val_fault
+use Rattle.cpl_base.proofs.NumeralsFacts.{numeral_of-bound}
+use Rattle.cpl_formula.specs.Arguments.{IsArgument, argument_beside, argument_by, argument_here, argument_of, cell_argument, is_near, name_word}
 use Rattle.cpl_formula.specs.Reads.{read_at}
 use Rattle.cpl_formula.specs.Tokens.{token_of}
 use Rattle.cpl_formula.specs.declared.arguments.Argument.TheVariants.{Cell}
@@ -34,3 +39,15 @@ pub cell_argument-among : (fields alarms : List (List ℕ)) (at : ℕ) (parts : 
 cell_argument-among fields alarms at None = tt
 cell_argument-among fields alarms at (Some (name, None)) = here-among (length fields) (length alarms) at (token_of fields alarms name false) (token-word fields alarms name false)
 cell_argument-among fields alarms at (Some (name, Some offsets)) = beside-among (length fields) (length alarms) at offsets (place_of fields name) (place-within fields name)
+
+-- what a word stands for, by what it denotes as a number
+argument_by-among : (fields alarms : List (List ℕ)) (at : ℕ) (word : List ℕ) (read : Result ℤ ValFault) → IfOk read IsValue → IfOk (argument_by fields alarms at word read) (IsArgument (length fields) (length alarms))
+argument_by-among fields alarms at word (Ok z) within = within
+argument_by-among fields alarms at word (Err val_fault.Digits) within = cell_argument-among fields alarms at (name_word word)
+argument_by-among fields alarms at word (Err fault) within = tt
+
+-- ---- for crates above
+
+-- what a word stands for is among the names given
+pub argument-among : (fields alarms : List (List ℕ)) (at : ℕ) (word : List ℕ) → IfOk (argument_of fields alarms at word) (IsArgument (length fields) (length alarms))
+argument-among fields alarms at word = argument_by-among fields alarms at word (value_of word) (numeral_of-bound 6 greatest word)

@@ -1,10 +1,11 @@
 pub mod Answers
-mod ArgumentsFacts
+pub mod ArgumentsFacts
 mod Complete
 mod CutParts
 mod Facts
 mod FinalReads
 mod Judging
+pub mod NamedFacts
 mod Onward
 mod Outcomes
 mod ReadsFacts

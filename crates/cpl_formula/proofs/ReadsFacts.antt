@@ -106,9 +106,13 @@ all-with_read : (P : Read → Type 0) (more reads : List Read) → AllByRecursio
 all-with_read P [] reads all rest = all
 all-with_read P (r ∷ more) reads all rest = all-with_read P more (with_read reads r) (with_read-all P r reads all rest.0) rest.1
 
+-- and so for reads, each once
+pub distinct_reads-all : (P : Read → Type 0) (reads : List Read) → AllByRecursion P reads → AllByRecursion P (distinct_reads reads)
+distinct_reads-all P reads all = all-with_read P reads [] tt all
+
 -- reads among so many fields and alarms, each once
 pub distinct_reads-among : (fields alarms : ℕ) (reads : List Read) → AllByRecursion (IsRead fields alarms) reads → AreReads fields alarms (distinct_reads reads)
 distinct_reads-among fields alarms reads all = record {
-  among = All-from_recursion (IsRead fields alarms) (distinct_reads reads) (all-with_read (IsRead fields alarms) reads [] tt all);
+  among = All-from_recursion (IsRead fields alarms) (distinct_reads reads) (distinct_reads-all (IsRead fields alarms) reads all);
   distinct = all-distinct reads [] (λ i j d before below. absurd (omega arith));
 }

@@ -104,12 +104,12 @@ both : {X : Type 0} (P : X → Type 0) (xs ys : List X) → AllByRecursion P (xs
 both P [] ys all = (tt, all)
 both P (x ∷ xs) ys all = let rest = both P xs ys all.1 in ((all.0, rest.0), rest.1)
 
-all-append : {X : Type 0} (P : X → Type 0) (xs ys : List X) → AllByRecursion P xs → AllByRecursion P ys → AllByRecursion P (xs ++ ys)
+pub all-append : {X : Type 0} (P : X → Type 0) (xs ys : List X) → AllByRecursion P xs → AllByRecursion P ys → AllByRecursion P (xs ++ ys)
 all-append P [] ys first second = second
 all-append P (x ∷ xs) ys first second = (first.0, all-append P xs ys first.1 second)
 
 -- the parts of two lists with a member between them
-around : {X : Type 0} (P : X → Type 0) (xs ys : List X) (x : X) → AllByRecursion P (xs ++ (x ∷ ys)) → AllByRecursion P xs × AllByRecursion P ys
+pub around : {X : Type 0} (P : X → Type 0) (xs ys : List X) (x : X) → AllByRecursion P (xs ++ (x ∷ ys)) → AllByRecursion P xs × AllByRecursion P ys
 around P xs ys x all = let parts = both P xs (x ∷ ys) all in (parts.0, parts.1.1)
 
 -- a part of a derivation: its tree over all reads can be evaluated, and its own reads are among the names

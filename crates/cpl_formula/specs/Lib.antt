@@ -1,5 +1,6 @@
 pub mod Arguments
 pub mod Examples
+pub mod FieldNames
 pub mod Formulas
 pub mod Functions
 pub mod Grammar

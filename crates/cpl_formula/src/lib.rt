@@ -7,6 +7,7 @@
 mod arguments;
 mod examples;
 mod fault;
+mod field_names;
 mod formula;
 mod functions;
 mod laws;
@@ -22,6 +23,7 @@ mod worth;
 pub use arguments::{Argument, read_argument};
 pub use examples::formula_examples;
 pub use fault::FormulaFault;
+pub use field_names::is_field_name;
 pub use formula::{EntrySign, Formula, Parsed, Read, ReadName};
 pub use laws::{grammar_laws, value_laws};
 pub use reading::parse;

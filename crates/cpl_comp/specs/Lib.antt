@@ -1,0 +1,16 @@
+pub mod Advertised
+pub mod Components
+pub mod Examples
+pub mod FieldRows
+pub mod Grids
+pub mod Halos
+pub mod Labels
+pub mod NameTable
+pub mod Parts
+pub mod Pets
+pub mod PhaseRows
+pub mod Realised
+pub mod RowForms
+pub mod Rules
+pub mod Scopes
+pub mod Views
