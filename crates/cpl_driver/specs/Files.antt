@@ -11,8 +11,9 @@ use Rattle.cpl_formula.specs.declared.formula.Parsed.{Parsed}
 use Rattle.cpl_formula.specs.declared.formula.Read.{Read}
 use Rattle.cpl_formula.specs.declared.formula.ReadName.{ReadName}
 use Rattle.cpl_formula.specs.declared.formula.ReadName.TheVariants.{Field}
+use Rattle.cpl_formula.specs.FieldNames.{is_field_name}
 use Rattle.cpl_formula.specs.Steps.{parsed_of}
-use Rattle.cpl_driver.specs.Names.{closes_table, constant_of, is_field_name, is_word, opens_table, values_of}
+use Rattle.cpl_driver.specs.Names.{closes_table, constant_of, is_word, opens_table, values_of}
 use Rattle.cpl_driver.specs.declared.system.Loop.{Loop}
 use Rattle.cpl_driver.specs.declared.system.System.{System}
 

@@ -1,27 +1,9 @@
 -- Names and labels: what the lines of a resource file are made of.
-use Rattle.std.specs.Prelude.{ℕ, ℤ, Bool, true, false, not, ◌&&◌, ◌==◌, if◌then◌else◌, List, [], ◌∷◌, ◌++◌, slice_index, codes, Option, Some, None}
-use Rattle.std.specs.List.{list_any}
+use Rattle.std.specs.Prelude.{ℕ, ℤ, Bool, false, ◌==◌, if◌then◌else◌, List, [], ◌∷◌, ◌++◌, slice_index, codes, Option, Some, None}
 use Rattle.std.specs.Result.{result_ok}
 use Rattle.std.specs.Str.{bytes_eq}
 use Rattle.cpl_base.specs.Numerals.{value_of}
-use Rattle.cpl_base.specs.Words.{is_name, rest_behind}
-
--- whether a text begins so
-abbrev pub begins_with : List ℕ → List ℕ → Bool
-begins_with [] text = true
-begins_with (c ∷ cs) [] = false
-begins_with (c ∷ cs) (d ∷ ds) = c == d && begins_with cs ds
-
--- the names that formulas use for something else
-abbrev pub reserved_names : List (List ℕ)
-reserved_names =
-    codes "i" ∷ codes "j" ∷ codes "s" ∷ codes "nx" ∷ codes "ny" ∷ codes "year" ∷ codes "month" ∷ codes "day"
-    ∷ codes "hour" ∷ codes "minute" ∷ codes "second" ∷ codes "days" ∷ codes "daysec" ∷ codes "dt" ∷ codes "min"
-    ∷ codes "max" ∷ codes "abs" ∷ codes "sel" ∷ codes "call" ∷ []
-
--- a name that isn't reserved and doesn't begin with `ring_`
-abbrev pub is_field_name : List ℕ → Bool
-is_field_name word = is_name word && not (list_any (λ name. bytes_eq name word) reserved_names) && not (begins_with (codes "ring_") word)
+use Rattle.cpl_base.specs.Words.{rest_behind}
 
 -- a number, which has no minus
 abbrev pub constant_of : List ℕ → Option ℤ

@@ -7,7 +7,6 @@
 mod couple;
 mod examples;
 mod items;
-mod names;
 mod reading;
 mod report;
 mod running;

@@ -14,13 +14,12 @@ ghost use Rattle.cpl_driver.specs.Reads.{Reads, IsSound, line_texts};
 use crate::items::{
     assignment, closes_table, is_word, labelled, line_at, lines, opens_table, single, values,
 };
-use crate::names::is_field_name;
 use crate::system::{Loop, System};
 use crate::unread::Unread;
 use cpl_base::{
     Memory, Text, cut, is_name, is_name_byte, joined, number_word, read_val, rest_behind,
 };
-use cpl_formula::{FormulaFault, Parsed, Read, ReadName, grammar_laws, parse};
+use cpl_formula::{FormulaFault, Parsed, Read, ReadName, grammar_laws, is_field_name, parse};
 use std::alloc::Global;
 
 /// So many lines with words has a file that describes one model on one cell.
