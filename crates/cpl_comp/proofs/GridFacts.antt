@@ -4,7 +4,7 @@ use Rattle.std.specs.Option.{ForSome, ok_or}
 use Rattle.std.specs.Str.{bytes_eq}
 use Rattle.std.proofs.lemmas.Bool.{and_parts, eqb-true, leb-true}
 use Rattle.std.proofs.lemmas.Int.{ints}
-use Rattle.cpl_base.specs.Numerals.{number_between, number_word, within}
+use Rattle.cpl_base.specs.Numerals.{number_between, number_in_range, number_word}
 use Rattle.cpl_config.specs.declared.entry.Entry.{Entry}
 use Rattle.cpl_config.specs.declared.row.Row.{Row}
 use Rattle.cpl_grid.specs.Grid.{IsGrid, cells_in}
@@ -29,15 +29,15 @@ record IsWithin (least most n : ℕ) : Type 0 where
   most_is : n ≤ most
 
 -- a number that passed the test
-within-is : (least most n : ℕ) → IfSome (within least most n) (IsWithin least most)
-within-is least most n =
+number_in_range-is : (least most n : ℕ) → IfSome (number_in_range least most n) (IsWithin least most)
+number_in_range-is least most n =
     if-IfSome (IsWithin least most) (nat_le least n && nat_le n most) (Some n) None
     (λ is. let parts = and_parts (nat_le least n) (nat_le n most) is in record { least_is = leb-true least n parts.0; most_is = leb-true n most parts.1 }) (λ is. tt)
 
 -- a number word between two bounds
 number_between-within : (least most : ℕ) (word : List ℕ) → IfSome (number_between least most word) (IsWithin least most)
 number_between-within least most word =
-    bind-IfSome (IsWithin least most) (number_word word) (within least most) (λ n _. within-is least most n)
+    bind-IfSome (IsWithin least most) (number_word word) (number_in_range least most) (λ n _. number_in_range-is least most n)
 
 -- Two numbers from 1 to a most.
 record ArePair (most : ℕ) (pair : ℕ × ℕ) : Type 0 where
