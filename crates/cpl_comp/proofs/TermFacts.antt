@@ -13,5 +13,6 @@ terms_with-two scope before (x ∷ y ∷ more) first second two is_first is_seco
   where
     is_first_back : x ≡ first
     is_first_back = sym is_first
+
     is_second_back : y ≡ second
     is_second_back = sym is_second

@@ -131,6 +131,7 @@ halos_in comp = map (λ phase. phase.halo) comp.phases
 -- a number of units, and the first input
 abbrev pub units : ℕ → Formula
 units n = roll-Formula (tree.Number (pos n))
+
 abbrev pub first_input : Formula
 first_input = roll-Formula (tree.Input 0)
 

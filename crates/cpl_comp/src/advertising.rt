@@ -9,7 +9,7 @@ ghost use Rattle.cpl_comp.specs.Parts.{advertisement_of};
 
 use crate::advertised::{Advertised, Parts};
 use crate::fault::CompFault;
-use crate::field_rows::{copied, fields_in};
+use crate::field_rows::{copied_words, fields_in};
 use crate::labels::own_values;
 use crate::pets::{bounds_in, kind_in};
 use cpl_base::{Many, Memory, Text, first_repeat, is_name};
@@ -51,12 +51,7 @@ pub fn advertise(
 
 /// What is read of a component.
 #[tactic(auto, unfolding(crate::specs::Advertised::advertised_component))]
-fn read_parts(
-    alloc: Global,
-    items: &Items,
-    name: &[u8],
-    dict: &Dict,
-) -> Result<Parts, CompFault>
+fn read_parts(alloc: Global, items: &Items, name: &[u8], dict: &Dict) -> Result<Parts, CompFault>
     ensures { Gives CompFault.Memory advertisement_of result (advertised_component items.now name.now dict.now) }
 {
     let kind = own_values(alloc, items, name, b"_kind")?;
@@ -90,7 +85,7 @@ fn phase_names_in(alloc: Global, row: Option<&Row>) -> Result<Many<Text>, CompFa
         return Err(CompFault::PhaseTwice { line: row.line });
     }
     few_phases(words)?;
-    Ok(copied(alloc, words)?)
+    Ok(copied_words(alloc, words)?)
 }
 
 /// The one name of a component's phases, where none are given.

@@ -157,12 +157,12 @@ fn field_row(
         units: Text::of(alloc, words.units)?,
         demand: words.demand,
         line,
-        rule: copied(alloc, words.rule)?,
+        rule: copied_words(alloc, words.rule)?,
     })
 }
 
 /// Words of their own with the same bytes.
-pub(crate) fn copied(alloc: Global, words: &[Text]) -> Result<Many<Text>, Memory>
+pub(crate) fn copied_words(alloc: Global, words: &[Text]) -> Result<Many<Text>, Memory>
     ensures { IfOk result (λ copies. copies ≡ words.now) }
 {
     let mut copies = Vec::with_capacity(alloc, words.len())?;

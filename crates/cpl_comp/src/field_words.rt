@@ -75,7 +75,10 @@ fn import_words(words: &[Text]) -> Option<FieldWords<'_>>
     let [name, standard, units, options @ ..] = words else {
         return None;
     };
-    if !(is_field_name(name.bytes()) && is_standard_name(standard.bytes()) && are_options(options)) {
+    if !(is_field_name(name.bytes())
+        && is_standard_name(standard.bytes())
+        && are_options(options))
+    {
         return None;
     }
     Some(FieldWords {

@@ -152,12 +152,7 @@ fn block_words(words: &[Text]) -> Option<(u32, u32)>
 }
 
 /// The decomposition of a grid into blocks, one for each PET from the first on.
-fn layout_of(
-    grid: Grid,
-    first_pet: u8,
-    pets: u8,
-    blocks: (u32, u32),
-) -> Result<Decomp, CompFault>
+fn layout_of(grid: Grid, first_pet: u8, pets: u8, blocks: (u32, u32)) -> Result<Decomp, CompFault>
     requires grid { IsGrid grid }
     requires columns { (1 ≤ blocks.0) × (blocks.0 ≤ 2 ^ 20) }
     requires rows { (1 ≤ blocks.1) × (blocks.1 ≤ 2 ^ 20) }

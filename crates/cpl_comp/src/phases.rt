@@ -92,12 +92,7 @@ fn phase_of(alloc: Global, count: usize, label: Text, rows: RowTable) -> Result<
 }
 
 /// What the rules of a phase read beside the cell.
-fn phase_halo(
-    alloc: Global,
-    count: usize,
-    sets: &[SetRow],
-    adds: &[SetRow],
-) -> Result<Halo, Memory>
+fn phase_halo(alloc: Global, count: usize, sets: &[SetRow], adds: &[SetRow]) -> Result<Halo, Memory>
     requires { count ≤ 64 }
     ensures { IfOk result (λ halo. halo ≡ halo_of count (map (λ row. row.rule) sets.now ++ map (λ row. row.rule) adds.now)) }
 {

@@ -17,7 +17,7 @@ use crate::labels::own_values;
 use crate::phases::phases_of;
 use crate::realised::Realised;
 use crate::scope::{PhaseScope, Scope};
-use crate::starts::{start_halo, start_names, started};
+use crate::starts::{fields_with_starts, start_halo, start_names};
 use cpl_base::{Many, Memory, Text};
 use cpl_config::Items;
 use cpl_formula::EntrySign;
@@ -159,7 +159,7 @@ fn start_fields(
         alarms,
         signs,
     };
-    let fields = started(alloc, scope, rows)?;
+    let fields = fields_with_starts(alloc, scope, rows)?;
     Ok(fields)
 }
 

@@ -35,12 +35,7 @@ pub(crate) fn rule_of(
 }
 
 /// The formula that words joined by blanks are.
-fn plain_rule(
-    alloc: Global,
-    scope: Scope<'_>,
-    line: u32,
-    words: &[Text],
-) -> Result<Rule, CompFault>
+fn plain_rule(alloc: Global, scope: Scope<'_>, line: u32, words: &[Text]) -> Result<Rule, CompFault>
     requires scope { IsScope (scope_view scope) }
     requires short { AreShort words.now }
     ensures { Gives CompFault.Memory (λ rule. rule) result (plain_rule (scope_view scope.entry) line words.now) }

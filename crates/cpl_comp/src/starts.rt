@@ -20,7 +20,7 @@ use cpl_base::{Many, Memory, Text};
 use std::alloc::Global;
 
 /// The fields of rows with their start rules.
-pub(crate) fn started(
+pub(crate) fn fields_with_starts(
     alloc: Global,
     scope: Scope<'_>,
     rows: Many<FieldRow>,

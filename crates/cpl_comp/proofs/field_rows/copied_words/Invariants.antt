@@ -1,5 +1,5 @@
 use Rattle.std.proofs.Common.{◌≡◌, take}
-use Rattle.cpl_comp.proofs.field_rows.copied.Given as goal
+use Rattle.cpl_comp.proofs.field_rows.copied_words.Given as goal
 
 -- the words so far
 abbrev pub invariant-loop-word : goal.invariant-loop-word
