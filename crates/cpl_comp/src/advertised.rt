@@ -1,6 +1,7 @@
 //! A component as far as others need to know it.
 
-ghost use Rattle.std.specs.Prelude.{◌≡◌, option_map};
+ghost use Rattle.std.specs.Prelude.{◌≡◌, ◌≤◌, option_map};
+ghost use Rattle.std.specs.Option.{ForSome};
 ghost use Rattle.cpl_comp.specs.Components.{IsAdvertised};
 ghost use Rattle.cpl_comp.specs.Pets.{first_pet_in, pet_count_in};
 
@@ -47,11 +48,13 @@ impl Model for Advertised {
 impl Advertised {
     ghost use Rattle.cpl_comp.specs.Parts.{advertisement_of};
 
-    /// The greatest PET of the component, where its bounds are given; else it lives on all PETs. Takes no memory.
+    /// The greatest PET of the component, at most 63, where its bounds are given; else it lives on all PETs. Takes no
+    /// memory.
     ///
     /// Source: this project's own.
     pub fn last_pet(&self) -> Option<u8>
-        ensures { result ≡ option_map (λ bounds. bounds.1) self.now.bounds }
+        ensures value { result ≡ option_map (λ bounds. bounds.1) self.now.bounds }
+        ensures range { ForSome result (λ last. last ≤ 63) }
     {
         match self.parts.bounds {
             None => None,

@@ -126,7 +126,7 @@ fn pet_count(list: &[Advertised]) -> u8 {
     let mut pets = 1u8;
     for one in list {
         if let Some(last) = one.last_pet() {
-            pets = pets.max(last.saturating_add(1));
+            pets = pets.max(last + 1);
         }
     }
     pets
