@@ -51,7 +51,7 @@ pub fn couple_solo<H: Shelf, O: Sink, E: Sink>(
         (stream (O.sent out.old) (O.sent out.new) (O.faults out.old) (O.faults out.new))
         (stream (E.sent err.old) (E.sent err.new) (E.faults err.old) (E.faults err.new)) result) }
 
-    // A reply that the definitions give was delivered, or a write of it failed.
+    // There is a reply with its cause, and it was delivered or a write of it failed.
     ensures done { IsDone (call (map string_bytes words.now) (H.files shelf.old) (H.faults shelf.old) (H.faults shelf.new)
         (stream (O.sent out.old) (O.sent out.new) (O.faults out.old) (O.faults out.new))
         (stream (E.sent err.old) (E.sent err.new) (E.faults err.old) (E.faults err.new)) result) }
