@@ -1,0 +1,6 @@
+mod MissingFacts
+mod NeedFacts
+mod OrderFacts
+mod RangeFacts
+mod RoundFacts
+mod WaitingFacts

@@ -1,0 +1,5 @@
+pub mod Examples
+pub mod Gives
+pub mod Orders
+pub mod Rounds
+pub mod Waiting
