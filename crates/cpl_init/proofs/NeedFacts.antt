@@ -1,11 +1,10 @@
 -- Numbers among others, and what rows say of who needs whom.
-use Rattle.std.proofs.Common.{◌≡◌, ◌≢◌, ℕ, zero, suc, ◌+◌, ◌<◌, ◌≤◌, Bool, true, false, not, ◌&&◌, ◌||◌, List, [], ◌∷◌, ◌++◌, length, refl, sym, ap, subst, ◌∙◌, inl, inr, arith}
+use Rattle.std.proofs.Common.{◌≡◌, ◌≢◌, ℕ, suc, ◌<◌, true, false, not, ◌&&◌, ◌||◌, List, [], ◌∷◌, ◌++◌, length, refl, sym, ap, subst, ◌∙◌, inl, inr, arith}
 use Rattle.std.proofs.Math.Bool.{or-false}
-use Rattle.std.proofs.lemmas.Bool.{and_cases, and_from, and_parts, cases_Bool, eq-eqb, eqb-true, false_from_ne_true, ne_eqb, not-false, or_cases, or_parts, or_right}
+use Rattle.std.proofs.lemmas.Bool.{and_cases, and_from, and_parts, eq-eqb, eqb-true, false_from_ne_true, ne_eqb, not-false, or_cases, or_parts, or_right}
 use Rattle.std.proofs.lemmas.List.Folds.{list_any-append}
 use Rattle.std.specs.Prelude.{◌==◌}
-use Rattle.std.specs.List.{list_any}
-use Rattle.cpl_init.specs.Orders.{AreNeeds, IsListed, has_number, is_needed, is_ready}
+use Rattle.cpl_init.specs.Orders.{AreNeeds, has_number, is_needed, is_ready}
 use Rattle.cpl_init.specs.declared.needs.Needs.{Needs}
 
 -- a number behind others

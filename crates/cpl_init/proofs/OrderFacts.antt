@@ -1,10 +1,9 @@
 -- What comes one after another: how it goes on, what stays true of it, and where it ends.
-use Rattle.std.proofs.Common.{◌≡◌, ◌≢◌, ◌⊎◌, ℕ, zero, suc, ◌+◌, ◌<◌, ◌≤◌, Bool, true, false, not, ◌&&◌, List, [], ◌∷◌, ◌++◌, length, take, get_or, filter, Option, Some, None, Ok, Err, refl, sym, ap, subst, ◌∙◌, inl, inr, arith, length-append}
+use Rattle.std.proofs.Common.{◌≡◌, ◌⊎◌, ℕ, zero, suc, ◌+◌, ◌<◌, Bool, true, false, not, List, [], ◌∷◌, ◌++◌, length, take, get_or, Option, Some, None, Err, refl, sym, ap, subst, ◌∙◌, inl, inr, arith, length-append}
 use Rattle.std.proofs.Math.Seq.{take-append_seam}
-use Rattle.std.proofs.lemmas.Bool.{and_parts, cases_eq, cases_lt, eq-eqb, ne_eqb, not-true, not_from_false, not_from_true}
+use Rattle.std.proofs.lemmas.Bool.{and_parts, cases_eq, cases_lt, ne_eqb, not-true, not_from_false, not_from_true}
 use Rattle.std.proofs.lemmas.List.{get_or_at, take-append-le}
-use Rattle.std.specs.Prelude.{◌==◌, slice_index}
-use Rattle.std.specs.List.{range_with_len}
+use Rattle.std.specs.Prelude.{slice_index}
 use Rattle.std.specs.Option.{option_map_or}
 use Rattle.cpl_init.specs.Orders.{can_follow, complete_order, has_number, initial_order, is_needed, is_ready, next_of, order_behind, other_components}
 use Rattle.cpl_init.specs.Waiting.{IsSelfNeeding}
@@ -143,12 +142,7 @@ pub IsSoFar-order : (count : ℕ) (needs : List Needs) → IsSoFar count needs (
 IsSoFar-order count needs =
     order_behind-keeps (IsSoFar count needs) count count needs [] (IsSoFar-next count needs) (IsSoFar-start count needs)
 
--- the answer where all components are placed
-pub initial_order-ok : (count : ℕ) (needs : List Needs) (order : List ℕ) → order ≡ complete_order count needs → length order ≡ count → initial_order count needs ≡ Ok order
-initial_order-ok count needs order is whole =
-    rw (← is, eq-eqb (length order) count whole) refl
-
--- and where some are left
+-- the answer where some components are left
 pub initial_order-err : (count : ℕ) (needs : List Needs) (order : List ℕ) → order ≡ complete_order count needs → length order < count → initial_order count needs ≡ Err (other_components count order)
 initial_order-err count needs order is short =
     rw (← is, ne_eqb (length order) count (λ whole. omega arith)) refl

@@ -1,5 +1,5 @@
 -- What each round looks up, after a row is added and after a component is placed.
-use Rattle.std.proofs.Common.{◌≡◌, ◌≢◌, ℕ, zero, suc, ◌+◌, ◌-◌, ◌*◌, ◌/◌, ◌%◌, ◌<◌, ◌≤◌, Bool, true, false, cond, not, ◌&&◌, List, [], ◌∷◌, ◌++◌, length, get_or, replicate, set, take, Option, refl, sym, ap, ◌∙◌, inl, inr, arith, length-set}
+use Rattle.std.proofs.Common.{◌≡◌, ℕ, ◌+◌, ◌-◌, ◌*◌, ◌/◌, ◌%◌, ◌<◌, ◌≤◌, Bool, true, false, not, ◌&&◌, List, [], ◌∷◌, ◌++◌, length, get_or, replicate, set, take, Option, refl, sym, ap, ◌∙◌, inl, inr, arith, length-set}
 use Rattle.std.proofs.lemmas.Bool.{cases_Bool, cases_eq, not_from_false, not_from_true}
 use Rattle.std.proofs.lemmas.List.{get_or-set_other, get_or-set_same, get_or-replicate, get_or_read, length-replicate, take_more}
 use Rattle.std.proofs.lemmas.Nat.{div-add-mod', div-mul-add, mod-mul-add, mul-add-lt}
@@ -38,9 +38,9 @@ IsRounds-again count needs row needed missing placed listed rounds is =
     let there : is_needed needs row.component row.producer ≡ true = sym (is_in_table-is count needs [] needed missing placed row.component row.producer rounds listed.component listed.producer) ∙ is in
     let same : (c p : ℕ) → is_needed (needs ++ row ∷ []) c p ≡ is_needed needs c p = λ c p. elim (cases_eq row.component c) [
       | inl component ↦ elim (cases_eq row.producer p) [
-          | inl producer ↦ rw (← component, ← producer) (is_needed-pushed needs row ∙ sym there)
-          | inr other ↦ is_needed-pushed_other needs row c p (λ _ producer. other producer)
-        ]
+        | inl producer ↦ rw (← component, ← producer) (is_needed-pushed needs row ∙ sym there)
+        | inr other ↦ is_needed-pushed_other needs row c p (λ _ producer. other producer)
+      ]
       | inr other ↦ is_needed-pushed_other needs row c p (λ component _. other component)
     ] in
     record {
@@ -101,10 +101,10 @@ IsRounds-added count needs row needed missing placed more listed rounds isnt one
 pub MissesEach-rounds : (count : ℕ) (needs : List Needs) (before : List ℕ) (needed : List Bool) (missing : List ℕ) (placed : List Bool) (k : ℕ) → IsRounds count needs before needed missing placed → k < count → has_number before k ≡ false → MissesEach count k needed missing
 MissesEach-rounds count needs before needed missing placed k rounds within new = record {
   some = λ c row needs_it.
-  let is = sym (is_in_table-is count needs before needed missing placed c k rounds row within) ∙ needs_it in
-  let one = missing_of-placed count needs before c k within new is in
-  let misses = rounds.misses c row in
-  omega arith;
+      let is = sym (is_in_table-is count needs before needed missing placed c k rounds row within) ∙ needs_it in
+      let one = missing_of-placed count needs before c k within new is in
+      let misses = rounds.misses c row in
+      omega arith;
 }
 
 -- the counts behind a newcomer

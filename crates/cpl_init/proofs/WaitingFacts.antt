@@ -1,11 +1,11 @@
 -- An order has all components or leaves those that wait.
-use Rattle.std.proofs.Common.{◌≡◌, ◌≢◌, ℕ, zero, suc, ◌+◌, ◌<◌, ◌≤◌, Bool, true, false, cond, not, List, [], length, None, Ok, Err, refl, sym, ap, ◌∙◌, inl, inr, arith}
-use Rattle.std.proofs.lemmas.Bool.{and_cases, cases_Bool, eqb-false, eqb-true, not-false, not-true, not_from_false, true_from_ne_false}
-use Rattle.std.specs.Prelude.{◌==◌, IsTrue, MatchResult, Result}
-use Rattle.cpl_init.specs.Orders.{AreNeeds, can_follow, complete_order, has_number, initial_order, is_needed, is_ready, next_of, other_components}
-use Rattle.cpl_init.specs.Waiting.{IsInitialOrder, IsSelfNeeding, IsWaiting, IsWaitingSet, OrderLaws}
+use Rattle.std.proofs.Common.{◌≡◌, ◌≢◌, ℕ, ◌<◌, Bool, true, false, cond, not, List, [], length, None, Ok, Err, refl, inl, inr, arith}
+use Rattle.std.proofs.lemmas.Bool.{and_cases, eqb-false, eqb-true, not-false, not-true, not_from_false, true_from_ne_false}
+use Rattle.std.specs.Prelude.{◌==◌, IsTrue, MatchResult}
+use Rattle.cpl_init.specs.Orders.{AreNeeds, can_follow, complete_order, has_number, is_needed, is_ready, next_of, other_components}
+use Rattle.cpl_init.specs.Waiting.{IsInitialOrder, IsSelfNeeding, IsWaitingSet, OrderLaws}
 use Rattle.cpl_init.specs.declared.needs.Needs.{Needs}
-use Rattle.cpl_init.proofs.NeedFacts.{IsMissing, has_number-some, is_needed-listed, is_ready-misses}
+use Rattle.cpl_init.proofs.NeedFacts.{has_number-some, is_needed-listed, is_ready-misses}
 use Rattle.cpl_init.proofs.OrderFacts.{IsSoFar, IsSoFar-order, order_behind-ends}
 use Rattle.cpl_init.proofs.RangeFacts.{filter_range-ascends, filter_range-passes, find-range_fails, has_number-filter_range}
 
@@ -52,9 +52,9 @@ order-initial count needs order so_far whole =
       all = all;
       places = λ k within. so_far.places k (omega arith);
       none_waits = λ c waits.
-      let has = all c (waits.1.listed c waits.2) in
-      let hasnt = so_far.apart waits.0 waits.1 c waits.2 in
-      cc;
+          let has = all c (waits.1.listed c waits.2) in
+          let hasnt = so_far.apart waits.0 waits.1 c waits.2 in
+          cc;
     }
 
 -- an order that ends early leaves those that wait

@@ -4,12 +4,12 @@ use Rattle.std.specs.List.{All, list_all, list_any, range_with_len}
 use Rattle.std.specs.Option.{option_map_or}
 use Rattle.cpl_init.specs.declared.needs.Needs.{Needs}
 
--- the component and the producer of a row are listed, 0 and 1 and so on below count
+-- a row is of listed components, whose numbers are below count
 pub record IsListed (count : ℕ) (row : Needs) : Type 0 where
   pub component : row.component < count
   pub producer : row.producer < count
 
--- and so are those of every row
+-- every row is
 abbrev pub AreNeeds : ℕ → List Needs → Type 0
 AreNeeds count needs = All (IsListed count) needs
 

@@ -12,13 +12,13 @@ use std::alloc::{AllocError, Global};
 #[derive(Drop)]
 pub struct Rounds {
     /// How many components there are.
-    pub count: u8,
+    count: u8,
     /// Whether a component needs a producer, at the place `component * count + producer`.
-    pub needed: Vec<bool>,
+    needed: Vec<bool>,
     /// How many producers that a component needs aren't placed.
-    pub missing: Vec<u8>,
+    missing: Vec<u8>,
     /// Whether a component is placed.
-    pub placed: Vec<bool>,
+    placed: Vec<bool>,
     ghost cells: { vec_len needed ≡ count * count },
     ghost counts: { vec_len missing ≡ count },
     ghost places: { vec_len placed ≡ count },
@@ -109,7 +109,7 @@ impl Rounds {
     pub fn others(&self, alloc: Global) -> Result<Vec<u8>, AllocError>
         ensures { IfOk result (λ others. others.items ≡ free_components self.now.count self.now.placed.items) }
     {
-        let mut others = vec![in alloc]?;
+        let mut others = Vec::new(alloc);
         for component in 0..self.count {
             if !self.placed[usize::from(component)] {
                 others.push(component)?;

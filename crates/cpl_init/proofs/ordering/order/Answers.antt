@@ -1,6 +1,6 @@
-use Rattle.std.proofs.Common.{◌≡◌, suc, ◌+◌, ◌-◌, ◌<◌, ◌++◌, ◌∷◌, [], Some, None, Ok, Err, length, arith, ap, sym, ◌∙◌, length-append}
-use Rattle.cpl_init.specs.Orders.{complete_order, initial_order, next_of, order_behind, other_components}
-use Rattle.cpl_init.specs.Rounds.{IsLowered, first_free_component, free_components}
+use Rattle.std.proofs.Common.{◌≡◌, suc, ◌+◌, ◌-◌, ◌++◌, ◌∷◌, [], Some, None, Err, length, arith, ap, sym, ◌∙◌, length-append}
+use Rattle.cpl_init.specs.Orders.{complete_order, order_behind, other_components}
+use Rattle.cpl_init.specs.Rounds.{IsLowered, free_components}
 use Rattle.cpl_init.proofs.OrderFacts.{initial_order-err, next_of-is, order_behind-none, order_behind-some}
 use Rattle.cpl_init.proofs.RoundFacts.{IsRounds-placed, MissesEach-rounds, next_of-rounds, other_components-rounds}
 use Rattle.cpl_init.proofs.ordering.order.Goals as goal

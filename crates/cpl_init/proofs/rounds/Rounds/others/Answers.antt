@@ -1,4 +1,4 @@
-use Rattle.std.proofs.Common.{◌≡◌, ℕ, ◌++◌, ◌∷◌, [], Bool, true, false, arith, ap, sym, ◌∙◌, Vec, Global}
+use Rattle.std.proofs.Common.{◌≡◌, ℕ, ◌++◌, ◌∷◌, [], true, arith, ap, sym, ◌∙◌, Vec, Global}
 use Rattle.std.proofs.lemmas.List.{get_or_read}
 use Rattle.std.specs.List.{slice_index_or}
 use Rattle.cpl_init.specs.Rounds.{free_components}
@@ -8,7 +8,7 @@ use Rattle.cpl_init.proofs.rounds.Rounds.others.Goals.{then-not-index+in_ok-push
 
 pub loop-component-init : goal.loop-component-init
 unfolding free_components
-loop-component-init c = c.in_ok-others.ensures.items
+loop-component-init c = c.new-others.ensures.items
 
 pub loop-component-preserved : goal.loop-component-preserved
 loop-component-preserved c =

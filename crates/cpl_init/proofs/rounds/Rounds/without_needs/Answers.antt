@@ -1,4 +1,4 @@
-use Rattle.std.proofs.Common.{◌≡◌, ◌*◌, Bool, false, replicate, ap, ◌∙◌, rules}
+use Rattle.std.proofs.Common.{◌≡◌, ◌*◌, false, replicate, ap, ◌∙◌, rules}
 use Rattle.cpl_init.proofs.RoundFacts.{IsRounds-start}
 use Rattle.cpl_init.proofs.rounds.Rounds.without_needs.Goals as goal
 
