@@ -10,7 +10,7 @@ use std::alloc::{AllocError, Global};
 /// What each round looks up: who needs whom, how many producers each component misses, and who is
 /// placed.
 #[derive(Drop)]
-pub struct Rounds {
+pub(crate) struct Rounds {
     /// How many components there are.
     count: u8,
     /// Whether a component needs a producer, at the place `component * count + producer`.
@@ -26,7 +26,7 @@ pub struct Rounds {
 
 impl Rounds {
     /// The rounds over these rows, with no component placed.
-    pub fn of(alloc: Global, count: u8, needs: &[Needs]) -> Result<Rounds, AllocError>
+    pub(crate) fn of(alloc: Global, count: u8, needs: &[Needs]) -> Result<Rounds, AllocError>
         requires { AreNeeds count needs.now }
         ensures count { IfOk result (λ rounds. rounds.count ≡ count) }
         ensures rounds { IfOk result (λ rounds. IsRounds count needs.now [] rounds.needed.items rounds.missing.items rounds.placed.items) }
@@ -74,7 +74,7 @@ impl Rounds {
     }
 
     /// The first component that isn't placed and misses no producer.
-    pub fn next(&self) -> Option<u8>
+    pub(crate) fn next(&self) -> Option<u8>
         ensures value { result ≡ first_free_component self.now.count self.now.missing.items self.now.placed.items }
         ensures within { IfSome result (λ component. component < self.now.count) }
     {
@@ -88,7 +88,7 @@ impl Rounds {
     }
 
     /// Places a component: those that need it miss one producer less.
-    pub fn place(&mut self, component: u8)
+    pub(crate) fn place(&mut self, component: u8)
         requires within { component < self.old.count }
         requires misses { MissesEach self.old.count component self.old.needed.items self.old.missing.items }
         ensures count { self.new.count ≡ self.old.count }
@@ -106,7 +106,7 @@ impl Rounds {
     }
 
     /// The components that aren't placed, ascending.
-    pub fn others(&self, alloc: Global) -> Result<Vec<u8>, AllocError>
+    pub(crate) fn others(&self, alloc: Global) -> Result<Vec<u8>, AllocError>
         ensures { IfOk result (λ others. others.items ≡ free_components self.now.count self.now.placed.items) }
     {
         let mut others = Vec::new(alloc);

@@ -49,6 +49,6 @@ returns-in_default c =
     let first = rw so_far.count at (sym c.in_default.is ∙ c.next.ensures.value) in
     let none = next_of-rounds count needs order rounds.needed.items rounds.missing.items rounds.placed.items None c.requires so_far.rounds first in
     let is : order ≡ complete_order count needs = sym (order_behind-none (count - c.loop-round._round) count needs order none) ∙ so_far.rest in
-    let free : c.in_ok-others.field-0.items ≡ free_components count rounds.placed.items = rw so_far.count at c.in_ok-others.ensures in
+    let free : c.in_ok-others.field-0.items ≡ free_components count rounds.placed.items = c.in_ok-others.ensures ∙ ap (λ n. free_components n rounds.placed.items) so_far.count in
     let others : c.of-waiting.result ≡ other_components count order = c.of-waiting.ensures ∙ free ∙ other_components-rounds count needs order rounds.needed.items rounds.missing.items rounds.placed.items so_far.rounds in
     record { order = tt; waiting = initial_order-err count needs order is (omega arith) ∙ ap Err (sym others) }
