@@ -8,7 +8,7 @@ use Rattle.cpl_config.specs.Items.{HasShortRows}
 use Rattle.cpl_config.specs.declared.entry.Entry.{Entry}
 use Rattle.cpl_config.specs.declared.row.Row.{Row}
 use Rattle.cpl_dict.specs.Dict.{Dictionary}
-use Rattle.cpl_comp.specs.Advertised.{Advertisement, advertised_component, few_phases, phase_names_in}
+use Rattle.cpl_comp.specs.Advertised.{Advertisement, advertised_component, phase_names_in}
 use Rattle.cpl_comp.specs.Components.{IsAdvertised}
 use Rattle.cpl_comp.specs.FieldRows.{fields_in}
 use Rattle.cpl_comp.specs.Labels.{own_values}

@@ -1,5 +1,5 @@
 -- What holds of a grid, its blocks and a substep that were read, and of the PETs of a component.
-use Rattle.std.proofs.Common.{◌≡◌, ℕ, ℤ, pos, ◌+◌, ◌-◌, ◌*◌, ◌^◌, ◌<◌, ◌≤◌, ◌==◌, Bool, true, false, ◌&&◌, nat_le, List, [], ◌∷◌, codes, Option, Some, None, IfSome, option_map, IfOk, refl, arith}
+use Rattle.std.proofs.Common.{◌≡◌, ℕ, ℤ, pos, ◌+◌, ◌*◌, ◌^◌, ◌<◌, ◌≤◌, ◌==◌, Bool, true, false, ◌&&◌, nat_le, List, [], ◌∷◌, codes, Option, Some, None, IfSome, option_map, IfOk, refl, arith}
 use Rattle.std.specs.Option.{ForSome, ok_or}
 use Rattle.std.specs.Str.{bytes_eq}
 use Rattle.std.proofs.lemmas.Bool.{and_parts, eqb-true, leb-true}
@@ -10,7 +10,6 @@ use Rattle.cpl_config.specs.declared.row.Row.{Row}
 use Rattle.cpl_grid.specs.Grid.{IsGrid, cells_in}
 use Rattle.cpl_grid.specs.Owners.{IsLayout, Layout, pets_in}
 use Rattle.cpl_grid.specs.declared.grid.Grid.{Grid}
-use Rattle.cpl_comp.specs.Advertised.{Advertisement}
 use Rattle.cpl_comp.specs.Components.{IsSubstep}
 use Rattle.cpl_comp.specs.Grids.{block_words, blocks_in, count_pair, few_cells, greatest_number, grid_in, grid_of, grid_words, layout_of, ring_grid, substep_in, substep_of, substep_words}
 use Rattle.cpl_comp.specs.Labels.{own_values}

@@ -1,5 +1,5 @@
 -- Lists of places, each there once; and what is found in a list.
-use Rattle.std.proofs.Common.{◌≡◌, ◌≢◌, ℕ, zero, suc, ◌<◌, inl, inr, Bool, true, false, not, ◌==◌, ltb, List, [], ◌∷◌, ◌++◌, length, get_or, map, position, AllPairs, Some, None, refl, sym, ap, arith, eqb}
+use Rattle.std.proofs.Common.{◌≡◌, ◌≢◌, ℕ, zero, suc, ◌<◌, inl, inr, Bool, true, false, ◌==◌, ltb, List, [], ◌∷◌, ◌++◌, length, get_or, map, position, AllPairs, Some, None, refl, sym, ap, arith, eqb}
 use Rattle.std.specs.List.{AllByRecursion, list_all, list_any, position_or_len}
 use Rattle.std.proofs.lemmas.Bool.{and_from, and_parts, cases_Bool, eqb-false, ltb-true, or_parts}
 

@@ -8,7 +8,7 @@ use Rattle.cpl_base.specs.Numerals.{value_of}
 use Rattle.cpl_base.specs.declared.value.ValFault.{ValFault}
 use Rattle.cpl_base.proofs.NumeralsFacts.{numeral_of-bound}
 use Rattle.cpl_comp.specs.FieldRows.{is_equals}
-use Rattle.cpl_comp.specs.RowForms.{RowForm, check, add, average, merge, no_form, add_form, are_terms, assign_form, average_form, check_form, check_range, keyword_form, merge_form, row_form}
+use Rattle.cpl_comp.specs.RowForms.{RowForm, check, add, merge, no_form, add_form, are_terms, assign_form, average_form, check_form, check_range, keyword_form, merge_form, row_form}
 
 -- Two values in order.
 pub record IsSpan (low high : ℤ) : Type 0 where

@@ -1,6 +1,5 @@
 -- Rows of phases whose words are short: so are those of their rules.
-use Rattle.std.proofs.Common.{◌≡◌, ℕ, ℤ, ◌≤◌, Bool, true, false, cond, ◌&&◌, int_le, List, [], ◌∷◌, length, Result, Ok, Err, codes, arith}
-use Rattle.std.specs.List.{join_with_byte}
+use Rattle.std.proofs.Common.{ℕ, ℤ, Bool, true, false, cond, ◌&&◌, int_le, List, [], ◌∷◌, Result, Ok, Err, codes, arith}
 use Rattle.std.specs.Str.{bytes_eq}
 use Rattle.cpl_base.specs.Numerals.{value_of}
 use Rattle.cpl_base.specs.declared.value.ValFault.{ValFault}

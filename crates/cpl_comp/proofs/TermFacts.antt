@@ -1,5 +1,5 @@
 -- The products of a sum, two words at a time.
-use Rattle.std.proofs.Common.{◌≡◌, ℕ, ◌+◌, ◌<◌, ◌≤◌, List, [], ◌∷◌, ◌++◌, length, get_or, drop, Option, Some, None, option_and_then, refl, sym, ap, arith}
+use Rattle.std.proofs.Common.{◌≡◌, ℕ, ◌≤◌, List, [], ◌∷◌, ◌++◌, length, get_or, drop, option_and_then, sym, arith}
 use Rattle.cpl_comp.specs.PhaseRows.{PhaseScope, field_place, term_of, terms_with}
 
 -- the first two words are a product, if both are fields, and the rest goes on behind it

@@ -1,5 +1,5 @@
 -- What a component advertises: its kind, its PETs, its fields and the names of its phases.
-use Rattle.std.specs.Prelude.{ℕ, ◌&&◌, nat_le, List, [], ◌∷◌, length, codes, Option, Some, None, Result, Ok, Err}
+use Rattle.std.specs.Prelude.{ℕ, ◌&&◌, nat_le, List, [], ◌∷◌, length, codes, Option, Some, None, Result, Ok}
 use Rattle.std.specs.List.{list_all}
 use Rattle.cpl_base.specs.ResultChain.{◌>>=◌, ok_if}
 use Rattle.cpl_base.specs.Words.{are_distinct, is_name, is_some_of}

@@ -1,5 +1,5 @@
 -- What holds of a component that was read.
-use Rattle.std.specs.Prelude.{◌≡◌, ◌≢◌, ℕ, ℤ, pos, ◌+◌, ◌<◌, ◌≤◌, ◌≤ℤ◌, ◌^◌, Bool, true, false, not, ◌&&◌, ◌==◌, List, [], ◌∷◌, ◌++◌, length, filter, map, slice_index, Option, Some, None, is_some, IsTrue}
+use Rattle.std.specs.Prelude.{◌≡◌, ◌≢◌, ℕ, ℤ, pos, ◌+◌, ◌<◌, ◌≤◌, ◌≤ℤ◌, ◌^◌, Bool, true, false, not, List, [], ◌++◌, length, filter, map, slice_index, Option, Some, None, is_some, IsTrue}
 use Rattle.std.specs.List.{All, AllPairs, list_all, slice_get}
 use Rattle.std.specs.Option.{ForSome}
 use Rattle.cpl_base.specs.Numbers.{IsValue}
@@ -11,7 +11,6 @@ use Rattle.cpl_formula.specs.Tree.{is_over}
 use Rattle.cpl_formula.specs.declared.arguments.Argument.{Argument}
 use Rattle.cpl_formula.specs.declared.formula.EntrySign.{EntrySign}
 use Rattle.cpl_formula.specs.declared.formula.Parsed.{Parsed}
-use Rattle.cpl_formula.specs.declared.formula.Read.{Read}
 use Rattle.cpl_formula.specs.declared.formula.ReadName.{ReadName}
 use Rattle.cpl_formula.specs.declared.formula.ReadName.TheVariants as names
 use Rattle.cpl_grid.specs.Owners.{IsLayout, pets_in}
@@ -33,7 +32,6 @@ use Rattle.cpl_comp.specs.declared.component.Role.{Role}
 use Rattle.cpl_comp.specs.declared.component.Role.TheVariants.{Var, Import, Export}
 use Rattle.cpl_comp.specs.declared.component.Rule.{Rule}
 use Rattle.cpl_comp.specs.declared.component.Rule.TheVariants.{Plain, Native}
-use Rattle.cpl_comp.specs.declared.component.SetRow.{SetRow}
 use Rattle.cpl_comp.specs.declared.component.Wanted.TheVariants.{Unchecked}
 use Rattle.cpl_comp.specs.declared.field_rows.FieldRow.{FieldRow}
 

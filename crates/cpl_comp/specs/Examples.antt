@@ -8,7 +8,6 @@ use Rattle.cpl_dict.specs.Dict.{Dictionary}
 use Rattle.cpl_formula.specs.Reads.{read_at}
 use Rattle.cpl_formula.specs.declared.arguments.Argument.{Argument}
 use Rattle.cpl_formula.specs.declared.arguments.Argument.TheVariants.{Number, Cell}
-use Rattle.cpl_formula.specs.declared.formula.EntrySign.{EntrySign}
 use Rattle.cpl_formula.specs.declared.formula.Formula.{Formula, roll-Formula}
 use Rattle.cpl_formula.specs.declared.formula.Formula.TheOpen as tree
 use Rattle.cpl_formula.specs.declared.formula.ReadName.TheVariants as names
@@ -17,14 +16,12 @@ use Rattle.cpl_comp.specs.Advertised.{Advertisement, advertised_component}
 use Rattle.cpl_comp.specs.FieldRows.{no_demand}
 use Rattle.cpl_comp.specs.Realised.{realised_component}
 use Rattle.cpl_comp.specs.declared.component.Comp.{Comp}
-use Rattle.cpl_comp.specs.declared.component.Field.{Field}
 use Rattle.cpl_comp.specs.declared.component.Halo.{Halo}
 use Rattle.cpl_comp.specs.declared.component.Kind.TheVariants.{Model, Mediator}
-use Rattle.cpl_comp.specs.declared.component.Phase.{Phase}
 use Rattle.cpl_comp.specs.declared.component.Role.TheVariants.{Var, Import, Export}
 use Rattle.cpl_comp.specs.declared.component.Rule.{Rule}
 use Rattle.cpl_comp.specs.declared.component.Rule.TheVariants.{Plain, Native}
-use Rattle.cpl_comp.specs.declared.component.Wanted.TheVariants.{Current, Next, Unchecked}
+use Rattle.cpl_comp.specs.declared.component.Wanted.TheVariants.{Current, Next}
 use Rattle.cpl_comp.specs.declared.fault.CompFault.{CompFault}
 use Rattle.cpl_comp.specs.declared.fault.CompFault.TheVariants as fault
 use Rattle.cpl_comp.specs.declared.field_rows.FieldRow.{FieldRow}

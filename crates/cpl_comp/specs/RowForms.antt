@@ -1,5 +1,5 @@
 -- What a row of a phase says by its form alone, names aside.
-use Rattle.std.specs.Prelude.{ℕ, ℤ, Bool, true, false, ◌&&◌, ◌==◌, ◌%◌, if◌then◌else◌, int_le, nat_le, List, [], ◌∷◌, length, codes, Option, Some, None, Result, Ok, Err}
+use Rattle.std.specs.Prelude.{ℕ, ℤ, Bool, ◌&&◌, ◌==◌, ◌%◌, if◌then◌else◌, int_le, nat_le, List, [], ◌∷◌, length, codes, Result, Ok, Err}
 use Rattle.std.specs.Str.{bytes_eq}
 use Rattle.cpl_base.specs.Numerals.{value_of}
 use Rattle.cpl_base.specs.declared.value.ValFault.{ValFault}

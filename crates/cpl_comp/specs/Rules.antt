@@ -9,7 +9,6 @@ use Rattle.cpl_formula.specs.declared.arguments.Argument.{Argument}
 use Rattle.cpl_formula.specs.declared.fault.FormulaFault.{FormulaFault}
 use Rattle.cpl_formula.specs.declared.fault.FormulaFault.TheVariants as formula_fault
 use Rattle.cpl_formula.specs.declared.formula.EntrySign.{EntrySign}
-use Rattle.cpl_formula.specs.declared.formula.Parsed.{Parsed}
 use Rattle.cpl_comp.specs.declared.component.Rule.{Rule}
 use Rattle.cpl_comp.specs.declared.component.Rule.TheVariants.{Plain, Native}
 use Rattle.cpl_comp.specs.declared.fault.CompFault.{CompFault}

@@ -1,7 +1,7 @@
 -- What holds of that which rules and rows may name.
 use Rattle.std.specs.Prelude.{◌≡◌, ℕ, ◌<◌, ◌≤◌, ◌^◌, List, length}
 use Rattle.std.specs.List.{join_with_byte}
-use Rattle.cpl_comp.specs.RowForms.{RowForm, assign, check, add, average, merge, no_form}
+use Rattle.cpl_comp.specs.RowForms.{RowForm, assign, add}
 use Rattle.cpl_comp.specs.PhaseRows.{PhaseScope}
 use Rattle.cpl_comp.specs.Rules.{Scope}
 

@@ -1,4 +1,4 @@
-use Rattle.std.proofs.Common.{List, subst, ◌≡◌}
+use Rattle.std.proofs.Common.{List, subst}
 use Rattle.std.specs.List.{All}
 use Rattle.cpl_config.specs.Items.{HasShortRows}
 use Rattle.cpl_config.specs.declared.entry.Entry.{Entry}

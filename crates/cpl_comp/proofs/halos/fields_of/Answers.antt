@@ -1,4 +1,4 @@
-use Rattle.std.proofs.Common.{◌≡◌, ℕ, Bool, ◌∙◌, sym, ap, Vec, Global}
+use Rattle.std.proofs.Common.{ℕ, Bool, ◌∙◌, sym, ap, Vec, Global}
 use Rattle.std.specs.List.{list_any}
 use Rattle.cpl_comp.specs.Halos.{has_read, is_read_beside}
 use Rattle.cpl_comp.specs.Views.{rules_in}

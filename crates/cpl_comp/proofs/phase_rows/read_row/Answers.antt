@@ -1,5 +1,5 @@
-use Rattle.std.proofs.Common.{◌≡◌, List, ℕ, ap, sym, subst, ◌∙◌}
-use Rattle.cpl_comp.specs.RowForms.{RowForm, row_form}
+use Rattle.std.proofs.Common.{ap, sym, subst, ◌∙◌}
+use Rattle.cpl_comp.specs.RowForms.{row_form}
 use Rattle.cpl_comp.specs.Scopes.{HasShortWords}
 use Rattle.cpl_comp.proofs.ShortRowFacts.{row_form-short}
 use Rattle.cpl_comp.proofs.phase_rows.read_row.Goals as goal

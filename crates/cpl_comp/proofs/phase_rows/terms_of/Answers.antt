@@ -1,6 +1,5 @@
-use Rattle.std.proofs.Common.{◌≡◌, ◌-◌, length, take, drop, sym, ◌∙◌, ap, arith, option_and_then, List, ℕ, ◌++◌, ◌∷◌, []}
+use Rattle.std.proofs.Common.{◌≡◌, ◌-◌, length, take, drop, sym, ◌∙◌, arith, ◌++◌, ◌∷◌, []}
 use Rattle.std.proofs.lemmas.List.{take_all, length-drop}
-use Rattle.cpl_comp.specs.PhaseRows.{terms_with}
 use Rattle.cpl_comp.specs.Views.{phase_scope_view}
 use Rattle.cpl_comp.proofs.TermFacts.{terms_with-two}
 use Rattle.cpl_comp.proofs.phase_rows.terms_of.Goals as goal

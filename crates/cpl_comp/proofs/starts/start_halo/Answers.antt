@@ -1,6 +1,5 @@
-use Rattle.std.proofs.Common.{◌≡◌, ◌++◌, ◌∙◌, sym, ap, List}
+use Rattle.std.proofs.Common.{◌++◌, ◌∙◌, sym, ap, List}
 use Rattle.std.specs.Option.{option_to_list}
-use Rattle.cpl_comp.specs.Views.{rules_in}
 use Rattle.cpl_comp.specs.declared.component.Field.{Field}
 use Rattle.cpl_comp.specs.declared.component.Rule.{Rule}
 use Rattle.cpl_comp.proofs.HaloFacts.{filter_map-take}

@@ -1,6 +1,5 @@
-use Rattle.std.proofs.Common.{◌≡◌, ◌++◌, ◌∷◌, [], List, false, sym, subst, ap, ◌∙◌, rules}
+use Rattle.std.proofs.Common.{◌≡◌, ◌++◌, ◌∷◌, [], false, ap, ◌∙◌, rules}
 use Rattle.cpl_comp.specs.FieldRows.{has_field}
-use Rattle.cpl_comp.specs.declared.field_rows.FieldRow.{FieldRow}
 use Rattle.cpl_comp.proofs.NameTableFacts.{HasNames-push}
 use Rattle.cpl_comp.proofs.field_table.FieldTable.push.Goals as goal
 
