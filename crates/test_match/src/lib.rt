@@ -1,5 +1,7 @@
-//! Tests of matching fields and of the order of initialisation.
+//! Tests of matching: which exports feed which imports, and the order of initialisation.
 #![tactic(auto)]
 
+#[cfg(test)]
+mod matching;
 #[cfg(test)]
 mod order;

@@ -1,0 +1,5 @@
+mod BitFacts
+mod ListFacts
+mod MarkFacts
+mod PairFacts
+mod WayFacts
