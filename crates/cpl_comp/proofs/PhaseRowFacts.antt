@@ -1,14 +1,15 @@
 -- What holds of the rows of a phase that were read, one after another.
-use Rattle.std.proofs.Common.{◌≡◌, ℕ, ◌+◌, ◌*◌, ◌%◌, ◌<◌, ◌≤◌, ◌==◌, Bool, true, false, not, ◌&&◌, ◌||◌, nat_le, nat_lt, List, [], ◌∷◌, ◌++◌, length, map, All, Option, Some, None, IfSome, IfOk, refl, sym, ap, ◌∙◌, subst, arith, append_assoc}
+use Rattle.std.proofs.Common.{◌≡◌, ℕ, ◌+◌, ◌*◌, ◌%◌, ◌<◌, ◌≤◌, ◌==◌, Bool, true, false, not, ◌&&◌, ◌||◌, nat_le, nat_lt, List, [], ◌∷◌, ◌++◌, length, map, All, Option, Some, None, Result, IfSome, IfOk, refl, sym, ap, ◌∙◌, subst, arith, append_assoc}
 use Rattle.std.specs.List.{list_all, list_any, slice_get}
 use Rattle.std.specs.Str.{bytes_eq}
 use Rattle.std.proofs.lemmas.Bool.{and_parts, false≢true, leb-true, ltb-true, not-true, or_parts}
 use Rattle.std.proofs.lemmas.List.{append-nil, length-append}
 use Rattle.std.proofs.lemmas.List.Elements.{All-append, All-map, All-nil, All-push}
+use Rattle.cpl_base.specs.ResultChain.{◌>>=◌}
 use Rattle.cpl_base.specs.Words.{is_name}
 use Rattle.cpl_config.specs.declared.row.Row.{Row}
 use Rattle.cpl_comp.specs.Components.{IsMerge, IsPhase, IsRange, IsRule, IsTerm, limits_of}
-use Rattle.cpl_comp.specs.PhaseRows.{PhaseRows, PhaseScope, after_form, after_row, after_rows, field_place, is_added, is_mediator, is_own, is_written, may_stand, no_rows, term_of, terms_with, with_add, with_average, with_merge, with_range, with_set}
+use Rattle.cpl_comp.specs.PhaseRows.{PhaseRows, PhaseScope, after_form, after_row, after_rows, field_place, is_added, is_mediator, is_own, is_written, may_stand, no_rows, row_field, term_of, terms_with, with_add, with_average, with_merge, with_range, with_set}
 use Rattle.cpl_comp.specs.Realised.{phase_of}
 use Rattle.cpl_comp.specs.RowForms.{RowForm, assign, check, add, average, merge, no_form, are_terms, row_form}
 use Rattle.cpl_comp.specs.Rules.{rule_of}
@@ -18,9 +19,10 @@ use Rattle.cpl_comp.specs.declared.component.MergeRow.{MergeRow}
 use Rattle.cpl_comp.specs.declared.component.RangeRow.{RangeRow}
 use Rattle.cpl_comp.specs.declared.component.Rule.{Rule}
 use Rattle.cpl_comp.specs.declared.component.SetRow.{SetRow}
-use Rattle.cpl_comp.specs.declared.fault.CompFault.TheVariants.{BadValue, NameUnknown}
+use Rattle.cpl_comp.specs.declared.fault.CompFault.{CompFault}
+use Rattle.cpl_comp.specs.declared.fault.CompFault.TheVariants.{NameUnknown}
 use Rattle.cpl_comp.proofs.ListFacts.{AreOnce, IsApart, apart-append, apart-none, list_all-insert, map-insert, once-insert, once-pairs, position-below}
-use Rattle.cpl_comp.proofs.ResultFacts.{bind-fact, bind-some_fact, some-IfOk, some-fact, test-IfOk}
+use Rattle.cpl_comp.proofs.ResultFacts.{bind-fact, bind-some_fact, some-IfOk, some-fact}
 use Rattle.cpl_comp.proofs.RowFormFacts.{IsForm, row_form-form}
 use Rattle.cpl_comp.proofs.RuleFacts.{IsRuleOver, rule_of-over}
 
@@ -192,7 +194,7 @@ with_add-are pets scope rows row are mediator rule stands =
       model = λ model. model-mediator scope.kind mediator model;
     }
 
--- a field's new values are held to a range
+-- a field's values must lie in a range
 with_range-are : (pets : ℕ) (scope : PhaseScope) (rows : PhaseRows) (row : RangeRow) → AreRows pets scope rows → length rows.ranges < 8 → IsRange (length scope.roles) row → AreRows pets scope (with_range rows row)
 with_range-are pets scope rows row are few fits = record {
   set_rules = are.set_rules;
@@ -259,33 +261,34 @@ merge-is fields words row fit terms =
 rule-is : (pets : ℕ) (scope : PhaseScope) (rule : Rule) → length scope.roles ≡ length scope.rules.fields → IsRuleOver pets scope.rules rule → IsRule (limits_of pets scope.rules.alarms scope.rules.signs) (length scope.roles) rule
 rule-is pets scope rule same over = let P : ℕ → Type 0 = λ n. IsRule (limits_of pets scope.rules.alarms scope.rules.signs) n rule in subst P (sym same) over.is
 
+-- what holds of a row's answer, if it does where the field is there and may stand
+row_field-IfOk : {B : Type 0} (P : B → Type 0) (line : ℕ) (stands : Bool) (place : Option ℕ) (f : ℕ → Result B CompFault) → (stands ≡ true → (field : ℕ) → place ≡ Some field → IfOk (f field) P) → IfOk (row_field line stands place >>= f) P
+row_field-IfOk P line true (Some field) f holds = holds refl field refl
+row_field-IfOk P line true None f holds = tt
+row_field-IfOk P line false place f holds = tt
+
 -- one row more, by its form
 after_form-are : (pets : ℕ) (scope : PhaseScope) (rows : PhaseRows) (line : ℕ) (form : RowForm) → length scope.roles ≡ length scope.rules.fields → IsForm form → AreRows pets scope rows → IfOk (after_form scope rows line form) (AreRows pets scope)
 after_form-are pets scope rows line (assign name words) same fit are =
-    test-IfOk (AreRows pets scope) (may_stand scope (is_written rows) (field_place scope name)) (BadValue line) _ (λ may.
-    some-IfOk (AreRows pets scope) (field_place scope name) (NameUnknown line) _ (λ field is.
+    row_field-IfOk (AreRows pets scope) line (may_stand scope (is_written rows) (field_place scope name)) (field_place scope name) _ (λ may field is.
     bind-fact (AreRows pets scope) (IsRuleOver pets scope.rules) (rule_of scope.rules line words) _ (rule_of-over pets scope.rules line words) (λ rule over.
-    with_set-are pets scope rows (record { field = field; rule = rule }) are (rule-is pets scope rule same over) (place-stands scope (is_written rows) (field_place scope name) field may is))))
+    with_set-are pets scope rows (record { field = field; rule = rule }) are (rule-is pets scope rule same over) (place-stands scope (is_written rows) (field_place scope name) field may is)))
 after_form-are pets scope rows line (check name low high) same fit are =
-    test-IfOk (AreRows pets scope) (nat_lt (length rows.ranges) 8) (BadValue line) _ (λ few.
-    some-IfOk (AreRows pets scope) (field_place scope name) (NameUnknown line) _ (λ field is.
+    row_field-IfOk (AreRows pets scope) line (nat_lt (length rows.ranges) 8) (field_place scope name) _ (λ few field is.
     with_range-are pets scope rows (record { field = field; low = low; high = high }) are (ltb-true (length rows.ranges) 8 few)
-    (record { field = place-below scope name field same is; low = fit.least; high = fit.most; ordered = fit.ordered })))
+    (record { field = place-below scope name field same is; low = fit.least; high = fit.most; ordered = fit.ordered }))
 after_form-are pets scope rows line (add name words) same fit are =
-    test-IfOk (AreRows pets scope) (is_mediator scope.kind && may_stand scope (is_added rows) (field_place scope name)) (BadValue line) _ (λ test.
-    some-IfOk (AreRows pets scope) (field_place scope name) (NameUnknown line) _ (λ field is.
+    row_field-IfOk (AreRows pets scope) line (is_mediator scope.kind && may_stand scope (is_added rows) (field_place scope name)) (field_place scope name) _ (λ test field is.
     bind-fact (AreRows pets scope) (IsRuleOver pets scope.rules) (rule_of scope.rules line words) _ (rule_of-over pets scope.rules line words) (λ rule over.
     let parts = and_parts (is_mediator scope.kind) (may_stand scope (is_added rows) (field_place scope name)) test in
-    with_add-are pets scope rows (record { field = field; rule = rule }) are parts.0 (rule-is pets scope rule same over) (place-stands scope (is_added rows) (field_place scope name) field parts.1 is))))
+    with_add-are pets scope rows (record { field = field; rule = rule }) are parts.0 (rule-is pets scope rule same over) (place-stands scope (is_added rows) (field_place scope name) field parts.1 is)))
 after_form-are pets scope rows line (average name) same fit are =
-    test-IfOk (AreRows pets scope) (is_mediator scope.kind && nat_lt (length rows.averages) 64 && may_stand scope (is_written rows) (field_place scope name)) (BadValue line) _ (λ test.
-    some-IfOk (AreRows pets scope) (field_place scope name) (NameUnknown line) _ (λ field is.
+    row_field-IfOk (AreRows pets scope) line (is_mediator scope.kind && nat_lt (length rows.averages) 64 && may_stand scope (is_written rows) (field_place scope name)) (field_place scope name) _ (λ test field is.
     let parts = and_parts (is_mediator scope.kind && nat_lt (length rows.averages) 64) (may_stand scope (is_written rows) (field_place scope name)) test in
     let first = and_parts (is_mediator scope.kind) (nat_lt (length rows.averages) 64) parts.0 in
-    with_average-are pets scope rows field are first.0 (ltb-true (length rows.averages) 64 first.1) (place-stands scope (is_written rows) (field_place scope name) field parts.1 is)))
+    with_average-are pets scope rows field are first.0 (ltb-true (length rows.averages) 64 first.1) (place-stands scope (is_written rows) (field_place scope name) field parts.1 is))
 after_form-are pets scope rows line (merge name words) same fit are =
-    test-IfOk (AreRows pets scope) (is_mediator scope.kind && may_stand scope (is_written rows) (field_place scope name)) (BadValue line) _ (λ test.
-    some-IfOk (AreRows pets scope) (field_place scope name) (NameUnknown line) _ (λ field is.
+    row_field-IfOk (AreRows pets scope) line (is_mediator scope.kind && may_stand scope (is_written rows) (field_place scope name)) (field_place scope name) _ (λ test field is.
     some-IfOk (AreRows pets scope) (terms_with scope [] words) (NameUnknown line) _ (λ terms found.
     let parts = and_parts (is_mediator scope.kind) (may_stand scope (is_written rows) (field_place scope name)) test in
     let each = terms_with-are scope [] words same (All-nil (IsTerm (length scope.roles))) in
@@ -293,7 +296,7 @@ after_form-are pets scope rows line (merge name words) same fit are =
     let made : AreTerms (length scope.roles) (length words) terms = subst (λ (n : ℕ). AreTerms (length scope.roles) n terms) zero-more (some-fact (AreTerms (length scope.roles) (0 * 2 + length words)) (terms_with scope [] words) terms each found) in
     with_merge-are pets scope rows (record { field = field; terms = terms }) are parts.0
     (merge-is (length scope.roles) words (record { field = field; terms = terms }) fit made)
-    (place-stands scope (is_written rows) (field_place scope name) field parts.1 is))))
+    (place-stands scope (is_written rows) (field_place scope name) field parts.1 is)))
 after_form-are pets scope rows line no_form same fit are = tt
 
 -- all rows

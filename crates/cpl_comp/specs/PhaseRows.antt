@@ -96,35 +96,34 @@ with_add rows row = record rows { adds = rows.adds ++ row ∷ [] }
 abbrev pub with_average : PhaseRows → ℕ → PhaseRows
 with_average rows field = record rows { averages = rows.averages ++ field ∷ [] }
 
--- a field's new values are held to a range
+-- a field's values must lie in a range
 abbrev pub with_range : PhaseRows → RangeRow → PhaseRows
 with_range rows row = record rows { ranges = rows.ranges ++ row ∷ [] }
+
+-- the field that a row in this line is about, where the rules on such rows let it stand
+abbrev pub row_field : ℕ → Bool → Option ℕ → Result ℕ CompFault
+row_field line stands place = ok_if stands (BadValue line) >>= (λ _. ok_or place (NameUnknown line))
 
 -- the rows with one more of this form, in this line: first the rules on the row, then its names, then its rule
 abbrev pub after_form : PhaseScope → PhaseRows → ℕ → RowForm → Result PhaseRows CompFault
 after_form scope rows line (assign name words) =
-    ok_if (may_stand scope (is_written rows) (field_place scope name)) (BadValue line) >>= (λ _.
-    ok_or (field_place scope name) (NameUnknown line) >>= (λ field.
+    row_field line (may_stand scope (is_written rows) (field_place scope name)) (field_place scope name) >>= (λ field.
     rule_of scope.rules line words >>= (λ rule.
-    Ok (with_set rows (record { field = field; rule = rule })))))
+    Ok (with_set rows (record { field = field; rule = rule }))))
 after_form scope rows line (check name low high) =
-    ok_if (nat_lt (length rows.ranges) 8) (BadValue line) >>= (λ _.
-    ok_or (field_place scope name) (NameUnknown line) >>= (λ field.
-    Ok (with_range rows (record { field = field; low = low; high = high }))))
+    row_field line (nat_lt (length rows.ranges) 8) (field_place scope name) >>= (λ field.
+    Ok (with_range rows (record { field = field; low = low; high = high })))
 after_form scope rows line (add name words) =
-    ok_if (is_mediator scope.kind && may_stand scope (is_added rows) (field_place scope name)) (BadValue line) >>= (λ _.
-    ok_or (field_place scope name) (NameUnknown line) >>= (λ field.
+    row_field line (is_mediator scope.kind && may_stand scope (is_added rows) (field_place scope name)) (field_place scope name) >>= (λ field.
     rule_of scope.rules line words >>= (λ rule.
-    Ok (with_add rows (record { field = field; rule = rule })))))
+    Ok (with_add rows (record { field = field; rule = rule }))))
 after_form scope rows line (average name) =
-    ok_if (is_mediator scope.kind && nat_lt (length rows.averages) 64 && may_stand scope (is_written rows) (field_place scope name)) (BadValue line) >>= (λ _.
-    ok_or (field_place scope name) (NameUnknown line) >>= (λ field.
-    Ok (with_average rows field)))
+    row_field line (is_mediator scope.kind && nat_lt (length rows.averages) 64 && may_stand scope (is_written rows) (field_place scope name)) (field_place scope name) >>= (λ field.
+    Ok (with_average rows field))
 after_form scope rows line (merge name words) =
-    ok_if (is_mediator scope.kind && may_stand scope (is_written rows) (field_place scope name)) (BadValue line) >>= (λ _.
-    ok_or (field_place scope name) (NameUnknown line) >>= (λ field.
+    row_field line (is_mediator scope.kind && may_stand scope (is_written rows) (field_place scope name)) (field_place scope name) >>= (λ field.
     ok_or (terms_with scope [] words) (NameUnknown line) >>= (λ terms.
-    Ok (with_merge rows (record { field = field; terms = terms })))))
+    Ok (with_merge rows (record { field = field; terms = terms }))))
 after_form scope rows line no_form = Err (BadValue line)
 
 -- the rows with one more

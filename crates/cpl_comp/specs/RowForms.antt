@@ -5,7 +5,7 @@ use Rattle.cpl_base.specs.Numerals.{value_of}
 use Rattle.cpl_base.specs.declared.value.ValFault.{ValFault}
 use Rattle.cpl_comp.specs.FieldRows.{is_equals}
 
--- What a row says: a field takes a rule's value; its new values are held to a range; a rule's value is kept for it; it
+-- What a row says: a field takes a rule's value; its values must lie in a range; a rule's value is kept for it; it
 -- takes the mean of what was kept; it takes a sum of products of two fields each; or none of these.
 pub data RowForm : Type 0 where
   assign : List ℕ → List (List ℕ) → RowForm

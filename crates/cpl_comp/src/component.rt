@@ -88,7 +88,7 @@ pub struct MergeRow {
     pub terms: Many<(u16, u16)>,
 }
 
-/// The range, ends included and in millionths, that a field's new values are held to.
+/// The range, ends included and in millionths, in which a field's values must lie once the phase has run.
 #[derive(Clone, Copy, Debug, PartialEq, Eq)]
 pub struct RangeRow {
     pub field: u16,
@@ -118,7 +118,7 @@ pub struct Phase {
     pub adds: Many<SetRow>,
     /// The fields that take the mean of what was kept for them.
     pub averages: Many<u16>,
-    /// The ranges that new values are held to.
+    /// The ranges in which values must lie once it has run.
     pub ranges: Many<RangeRow>,
     /// What its rules read beside the cell.
     pub halo: Halo,

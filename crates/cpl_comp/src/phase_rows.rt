@@ -4,7 +4,7 @@ ghost use Rattle.std.specs.Prelude.{◌≡◌, ◌<◌, [], Some, length, IfOk, 
 ghost use Rattle.std.specs.List.{All};
 ghost use Rattle.cpl_base.specs.Gives.{Gives};
 ghost use Rattle.cpl_config.specs.Items.{IsShort};
-ghost use Rattle.cpl_comp.specs.PhaseRows.{after_form, after_row, after_rows, field_place, is_added, is_mediator, is_own, is_written, may_stand, no_rows, term_of, terms_with};
+ghost use Rattle.cpl_comp.specs.PhaseRows.{after_form, after_row, after_rows, field_place, is_added, is_mediator, is_own, is_written, may_stand, no_rows, row_field, term_of, terms_with};
 ghost use Rattle.cpl_comp.specs.RowForms.{add, assign, average, check, merge};
 ghost use Rattle.cpl_comp.specs.Scopes.{AreShort, HasShortWords, IsPhaseScope};
 ghost use Rattle.cpl_comp.specs.Views.{form_view, phase_scope_view};
@@ -79,6 +79,16 @@ fn read_form(
     }
 }
 
+/// The field that a row is about, where the rules on such rows let it stand.
+fn row_field(line: u32, may_stand: bool, place: Option<u16>) -> Result<u16, CompFault>
+    ensures { result ≡ row_field line may_stand place }
+{
+    if !may_stand {
+        return Err(CompFault::BadValue { line });
+    }
+    place.ok_or(CompFault::NameUnknown { line })
+}
+
 /// A field takes a rule's value.
 fn add_set(
     alloc: Global,
@@ -93,18 +103,13 @@ fn add_set(
     ensures { Gives CompFault.Memory (λ _. table.new) result (after_form (phase_scope_view scope.entry) table.old line (assign name.now words.now)) }
 {
     let place = field_place(scope, name);
-    if !may_write(scope, table, place) {
-        return Err(CompFault::BadValue { line });
-    }
-    let Some(field) = place else {
-        return Err(CompFault::NameUnknown { line });
-    };
+    let field = row_field(line, may_write(scope, table, place), place)?;
     let rule = rule_of(alloc, scope.rules, line, words)?;
     table.add_set(SetRow { field, rule })?;
     Ok(())
 }
 
-/// A field's new values are held to a range.
+/// A field's values must lie in a range once the phase has run.
 fn add_range(
     scope: PhaseScope<'_>,
     table: &mut RowTable,
@@ -116,12 +121,8 @@ fn add_range(
     requires { IsPhaseScope (phase_scope_view scope) }
     ensures { Gives CompFault.Memory (λ _. table.new) result (after_form (phase_scope_view scope.entry) table.old line (check name.now low high)) }
 {
-    if table.range_count() >= MOST_RANGES {
-        return Err(CompFault::BadValue { line });
-    }
-    let Some(field) = field_place(scope, name) else {
-        return Err(CompFault::NameUnknown { line });
-    };
+    let is_free = table.range_count() < MOST_RANGES;
+    let field = row_field(line, is_free, field_place(scope, name))?;
     table.add_range(RangeRow { field, low, high })?;
     Ok(())
 }
@@ -140,12 +141,8 @@ fn add_kept(
     ensures { Gives CompFault.Memory (λ _. table.new) result (after_form (phase_scope_view scope.entry) table.old line (add name.now words.now)) }
 {
     let place = field_place(scope, name);
-    if !(is_mediator(scope.kind) && may_add(scope, table, place)) {
-        return Err(CompFault::BadValue { line });
-    }
-    let Some(field) = place else {
-        return Err(CompFault::NameUnknown { line });
-    };
+    let is_free = is_mediator(scope.kind) && may_add(scope, table, place);
+    let field = row_field(line, is_free, place)?;
     let rule = rule_of(alloc, scope.rules, line, words)?;
     table.add_kept(SetRow { field, rule })?;
     Ok(())
@@ -165,12 +162,7 @@ fn add_average(
     let is_free = is_mediator(scope.kind)
         && table.average_count() < MOST_AVERAGES
         && may_write(scope, table, place);
-    if !is_free {
-        return Err(CompFault::BadValue { line });
-    }
-    let Some(field) = place else {
-        return Err(CompFault::NameUnknown { line });
-    };
+    let field = row_field(line, is_free, place)?;
     table.add_average(field)?;
     Ok(())
 }
@@ -188,12 +180,8 @@ fn add_merge(
     ensures { Gives CompFault.Memory (λ _. table.new) result (after_form (phase_scope_view scope.entry) table.old line (merge name.now factors.now)) }
 {
     let place = field_place(scope, name);
-    if !(is_mediator(scope.kind) && may_write(scope, table, place)) {
-        return Err(CompFault::BadValue { line });
-    }
-    let Some(field) = place else {
-        return Err(CompFault::NameUnknown { line });
-    };
+    let is_free = is_mediator(scope.kind) && may_write(scope, table, place);
+    let field = row_field(line, is_free, place)?;
     let Some(terms) = terms_of(alloc, scope, factors)? else {
         return Err(CompFault::NameUnknown { line });
     };

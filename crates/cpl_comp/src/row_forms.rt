@@ -17,7 +17,7 @@ pub(crate) enum RowForm<'a> {
         /// The words of the rule.
         rule: &'a [Text],
     },
-    /// A field's new values are held to a range.
+    /// A field's values must lie in a range once the phase has run.
     Check {
         /// Its name.
         field: &'a [u8],

@@ -107,7 +107,7 @@ impl RowTable {
         Ok(())
     }
 
-    /// A field's new values are held to a range.
+    /// A field's values must lie in a range once the phase has run.
     pub fn add_range(&mut self, row: RangeRow) -> Result<(), Memory>
         ensures { OnOk result (self.new ≡ with_range self.old row) }
     {
