@@ -1,9 +1,12 @@
 -- An order has all components or leaves those that wait.
-use Rattle.std.proofs.Common.{◌≡◌, ◌≢◌, ℕ, ◌<◌, Bool, true, false, cond, not, List, [], length, None, Ok, Err, refl, inl, inr, arith}
+use Rattle.std.proofs.Common.{◌≡◌, ◌≢◌, ℕ, ◌<◌, Bool, true, false, cond, not, List, [], length, None, Result, Ok, Err, IfOk, refl, inl, inr, arith, subst}
 use Rattle.std.proofs.lemmas.Bool.{and_cases, eqb-false, eqb-true, not-false, not-true, not_from_false, true_from_ne_false}
-use Rattle.std.specs.Prelude.{◌==◌, IsTrue, MatchResult}
-use Rattle.cpl_init.specs.Orders.{AreNeeds, can_follow, complete_order, has_number, is_needed, is_ready, next_of, other_components}
-use Rattle.cpl_init.specs.Waiting.{IsInitialOrder, IsSelfNeeding, IsWaitingSet, OrderLaws}
+use Rattle.std.specs.Prelude.{◌==◌, IsTrue, IfErr, MatchResult}
+use Rattle.cpl_init.specs.Gives.{Gives}
+use Rattle.cpl_init.specs.Orders.{AreNeeds, can_follow, complete_order, has_number, initial_order, is_needed, is_ready, next_of, other_components}
+use Rattle.cpl_init.specs.Waiting.{IsInitialOrder, IsSelfNeeding, IsWaitingFault, IsWaitingSet, OrderLaws}
+use Rattle.cpl_init.specs.declared.fault.InitFault.{InitFault}
+use Rattle.cpl_init.specs.declared.fault.InitFault.TheVariants.{Waiting, Memory}
 use Rattle.cpl_init.specs.declared.needs.Needs.{Needs}
 use Rattle.cpl_init.proofs.NeedFacts.{has_number-some, is_needed-listed, is_ready-misses}
 use Rattle.cpl_init.proofs.OrderFacts.{IsSoFar, IsSoFar-order, order_behind-ends}
@@ -82,3 +85,14 @@ order-laws count needs listed =
       | inr spent ↦ absurd (short (omega arith))
     ] in
     answer-is count needs order (length order == count) (λ is. order-initial count needs order so_far (eqb-true _ _ is)) (λ isnt. waiting (eqb-false _ _ isnt))
+
+-- an answer that is the definition's is an initial order, where it is one
+pub gives-order : (count : ℕ) (needs : List Needs) (result : Result (List ℕ) InitFault) → AreNeeds count needs → Gives result (initial_order count needs) → IfOk result (IsInitialOrder count needs)
+gives-order count needs (Ok order) listed gives = let P : Result (List ℕ) (List ℕ) → Type 0 = λ given. MatchResult given (IsInitialOrder count needs) (IsWaitingSet count needs) in subst P gives.order (order-laws count needs listed)
+gives-order count needs (Err fault) listed gives = tt
+
+-- and its components are those that wait, where it has some
+pub gives-waiting : (count : ℕ) (needs : List Needs) (result : Result (List ℕ) InitFault) → AreNeeds count needs → Gives result (initial_order count needs) → IfErr result (IsWaitingFault count needs)
+gives-waiting count needs (Ok order) listed gives = tt
+gives-waiting count needs (Err (Waiting components)) listed gives = let P : Result (List ℕ) (List ℕ) → Type 0 = λ given. MatchResult given (IsInitialOrder count needs) (IsWaitingSet count needs) in subst P gives.waiting (order-laws count needs listed)
+gives-waiting count needs (Err Memory) listed gives = tt

@@ -1,7 +1,9 @@
 -- What an initial order and the components that wait for one another are, by sets.
-use Rattle.std.specs.Prelude.{◌≡◌, ◌↔◌, ℕ, ◌<◌, Bool, IsTrue, List, length, take, Some, slice_index, MatchResult}
+use Rattle.std.specs.Prelude.{◌≡◌, ◌↔◌, ⊤, ℕ, ◌<◌, Bool, IsTrue, List, length, take, Some, slice_index, MatchResult}
 use Rattle.std.specs.List.Sorted.{IsStrictlyIncreasing}
 use Rattle.cpl_init.specs.Orders.{AreNeeds, has_number, initial_order, is_needed, next_of}
+use Rattle.cpl_init.specs.declared.fault.InitFault.{InitFault}
+use Rattle.cpl_init.specs.declared.fault.InitFault.TheVariants.{Waiting, Memory}
 use Rattle.cpl_init.specs.declared.needs.Needs.{Needs}
 
 -- a set of listed components, each of which needs a member of it
@@ -25,6 +27,11 @@ pub record IsInitialOrder (count : ℕ) (needs : List Needs) (order : List ℕ) 
   pub all : (c : ℕ) → c < count → IsTrue (has_number order c)
   pub places : (k : ℕ) → k < count → next_of count needs (take k order) ≡ Some (slice_index order k)
   pub none_waits : (c : ℕ) → ¬ IsWaiting count needs c
+
+-- the fault has the components that wait; want of memory needs no cause
+abbrev pub IsWaitingFault : ℕ → List Needs → InitFault → Type 0
+IsWaitingFault count needs (Waiting components) = IsWaitingSet count needs components
+IsWaitingFault count needs Memory = ⊤
 
 -- there is an order only where none waits, and else it is the components that wait
 abbrev pub OrderLaws : Type 0

@@ -1,7 +1,9 @@
 //! The order in which components are initialised.
 
+ghost use Rattle.std.specs.Prelude.{IfErr, IfOk};
 ghost use Rattle.cpl_init.specs.Gives.{Gives};
 ghost use Rattle.cpl_init.specs.Orders.{AreNeeds, initial_order};
+ghost use Rattle.cpl_init.specs.Waiting.{IsInitialOrder, IsWaitingFault};
 
 use crate::components::Components;
 use crate::fault::InitFault;
@@ -20,6 +22,16 @@ use std::alloc::Global;
 /// Source: NUOPC Layer Reference, initialisation in the order of dependencies; which of several comes
 /// first, and the components that wait, are this project's own.
 pub fn order(alloc: Global, components: u8, needs: &[Needs]) -> Result<Components, InitFault>
+    requires { AreNeeds components needs.now }
+    ensures answer { Gives result (initial_order components needs.now) }
+    ensures order { IfOk result (IsInitialOrder components needs.now) }
+    ensures waiting { IfErr result (IsWaitingFault components needs.now) }
+{
+    order_by_rounds(alloc, components, needs)
+}
+
+/// The order, a component in each round.
+fn order_by_rounds(alloc: Global, components: u8, needs: &[Needs]) -> Result<Components, InitFault>
     requires { AreNeeds components needs.now }
     ensures { Gives result (initial_order components needs.now) }
 {

@@ -1,7 +1,7 @@
 use Rattle.std.proofs.Common.{◌≡◌, ◌-◌, length}
 use Rattle.cpl_init.specs.Orders.{complete_order, order_behind}
 use Rattle.cpl_init.specs.Rounds.{IsRounds}
-use Rattle.cpl_init.proofs.ordering.order.Given as goal
+use Rattle.cpl_init.proofs.ordering.order_by_rounds.Given as goal
 
 -- the rounds behind those placed so far, one in each, and behind these comes what is left of the order
 abbrev pub invariant-loop-round : goal.invariant-loop-round
