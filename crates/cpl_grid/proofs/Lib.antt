@@ -1,7 +1,7 @@
 mod BlockFacts
-mod BoxFacts
+pub mod BoxFacts
 mod GridFacts
 mod OwnerFacts
 mod PartFacts
-mod RangeFacts
+pub mod RangeFacts
 mod TotalFacts

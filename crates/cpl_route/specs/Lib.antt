@@ -1,0 +1,4 @@
+pub mod Examples
+pub mod Places
+pub mod Routes
+pub mod Walks

@@ -1,0 +1,87 @@
+-- Routes: which cells each PET sends to each other.
+use Rattle.std.specs.Prelude.{ℕ, ◌==◌, ◌&&◌, ℤ, Bool, not, nat_lt, List, [], length, map, filter, ◌∷◌, sum_by, if◌then◌else◌}
+use Rattle.std.specs.List.{flat_map, list_any, range_with_len}
+use Rattle.cpl_grid.specs.Grid.{neighbour_of}
+use Rattle.cpl_grid.specs.Owners.{Layout, cells_of, owner_of, pets_in}
+use Rattle.cpl_route.specs.declared.need.Need.{Need}
+
+-- the PETs that have a block, ascending
+abbrev pub pets_of : Layout → List ℕ
+pets_of layout = range_with_len layout.first_pet (pets_in layout)
+
+-- what one PET sends another: the cells, ascending
+pub record Leg : Type 0 where
+  pub from : ℕ
+  pub to : ℕ
+  pub cells : List ℕ
+
+-- of the cells that a PET owns, those that another needs, ascending
+unfoldable pub shared_cells : Layout → (ℕ → ℕ → Bool) → ℕ → ℕ → List ℕ
+shared_cells src is_needed from to = filter (is_needed to) (cells_of src from)
+
+-- what a PET sends another
+abbrev pub leg_between : Layout → (ℕ → ℕ → Bool) → ℕ → ℕ → Leg
+leg_between src is_needed from to =
+    record { from = from; to = to; cells = shared_cells src is_needed from to }
+
+-- there are cells to send
+abbrev pub has_cells : Leg → Bool
+has_cells leg = nat_lt 0 (length leg.cells)
+
+-- what a PET sends to each receiver to which it sends cells
+abbrev pub legs_from : Layout → (ℕ → ℕ → Bool) → List ℕ → ℕ → List Leg
+legs_from src is_needed receivers from = filter has_cells (map (leg_between src is_needed from) receivers)
+
+-- what each owner sends to each receiver: `is_needed pet s` says whether the PET needs the cell
+unfoldable pub route_of : Layout → (ℕ → ℕ → Bool) → List ℕ → List Leg
+route_of src is_needed receivers = flat_map (legs_from src is_needed receivers) (pets_of src)
+
+-- a PET needs the cells that it owns
+abbrev pub is_owned : Layout → ℕ → ℕ → Bool
+is_owned dst pet s = owner_of dst s == pet
+
+-- a redistribution: each cell goes from its owner to its owner
+abbrev pub redist_route : Layout → Layout → List Leg
+redist_route src dst = route_of src (is_owned dst) (pets_of dst)
+
+-- a cell is a neighbour, at one of the offsets, of a cell of the PET
+abbrev pub is_neighbour : Layout → List (ℤ × ℤ) → ℕ → ℕ → Bool
+is_neighbour layout offsets pet s =
+    list_any (λ t. list_any (λ offset. neighbour_of layout.grid t offset.0 offset.1 == s) offsets) (cells_of layout pet)
+
+-- a PET needs the neighbours of its cells that aren't its own
+abbrev pub is_halo : Layout → List (ℤ × ℤ) → ℕ → ℕ → Bool
+is_halo layout offsets pet s = not (owner_of layout s == pet) && is_neighbour layout offsets pet s
+
+-- the halo: each PET gets the neighbours of its cells from their owners
+abbrev pub halo_route : Layout → List (ℤ × ℤ) → List Leg
+halo_route layout offsets = route_of layout (is_halo layout offsets) (pets_of layout)
+
+-- the PET's list has the cell
+abbrev pub is_picked : List Need → ℕ → ℕ → Bool
+is_picked needs pet s = list_any (λ need. need.pet == pet && list_any (λ t. t == s) need.cells) needs
+
+-- the PETs that have a list, ascending
+abbrev pub pickers_of : List Need → List ℕ
+pickers_of needs = filter (λ pet. list_any (λ need. need.pet == pet) needs) (range_with_len 0 256)
+
+-- each PET gets the cells of its list from their owners
+abbrev pub pick_route : Layout → List Need → List Leg
+pick_route src needs = route_of src (is_picked needs) (pickers_of needs)
+
+-- a leg leads from one PET to another
+abbrev pub is_between : ℕ → ℕ → Leg → Bool
+is_between from to leg = leg.from == from && leg.to == to
+
+-- the cells that one PET sends another, none where no leg leads there
+unfoldable pub cells_between : List Leg → ℕ → ℕ → List ℕ
+cells_between [] from to = []
+cells_between (leg ∷ legs) from to = if is_between from to leg then leg.cells else cells_between legs from to
+
+-- between which PETs the legs lead
+abbrev pub ends_of : List Leg → List (ℕ × ℕ)
+ends_of legs = map (λ leg. (leg.from, leg.to)) legs
+
+-- how many cells are sent
+abbrev pub cells_sent : List Leg → ℕ
+cells_sent legs = sum_by (λ leg. length leg.cells) legs

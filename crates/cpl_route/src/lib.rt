@@ -1,0 +1,13 @@
+//! Routes: which cells each PET sends to each other, for a redistribution, for a halo, and for cells that are
+//! picked by lists.
+#![tactic(auto)]
+
+mod examples;
+mod fault;
+mod need;
+mod needs;
+mod walk;
+
+pub use examples::route_examples;
+pub use fault::RouteFault;
+pub use need::Need;
