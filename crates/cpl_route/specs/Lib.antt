@@ -1,4 +1,6 @@
 pub mod Examples
+pub mod Kept
 pub mod Places
 pub mod Routes
+pub mod Tables
 pub mod Walks

@@ -1,6 +1,6 @@
 -- Routes: which cells each PET sends to each other.
-use Rattle.std.specs.Prelude.{ℕ, ◌==◌, ◌&&◌, ℤ, Bool, not, nat_lt, List, [], length, map, filter, ◌∷◌, sum_by, if◌then◌else◌}
-use Rattle.std.specs.List.{flat_map, list_any, range_with_len}
+use Rattle.std.specs.Prelude.{◌≡◌, ℕ, ◌<◌, ◌==◌, ◌||◌, ◌&&◌, ℤ, Bool, true, not, Some, slice_get, nat_lt, List, [], length, map, filter, ◌∷◌, sum_by, if◌then◌else◌}
+use Rattle.std.specs.List.{All, flat_map, list_any, range_with_len}
 use Rattle.cpl_grid.specs.Grid.{neighbour_of}
 use Rattle.cpl_grid.specs.Owners.{Layout, cells_of, owner_of, pets_in}
 use Rattle.cpl_route.specs.declared.need.Need.{Need}
@@ -85,3 +85,17 @@ ends_of legs = map (λ leg. (leg.from, leg.to)) legs
 -- how many cells are sent
 abbrev pub cells_sent : List Leg → ℕ
 cells_sent legs = sum_by (λ leg. length leg.cells) legs
+
+-- one pair of PETs comes before another: by the first of each, then by the second
+abbrev pub is_before : (ℕ × ℕ) → (ℕ × ℕ) → Bool
+is_before a b = nat_lt a.0 b.0 || (a.0 == b.0 && nat_lt a.1 b.1)
+
+-- each pair comes before those behind it
+abbrev pub AreAscending : List (ℕ × ℕ) → Type 0
+AreAscending pairs =
+    (i j : ℕ) (a b : ℕ × ℕ) → i < j → slice_get pairs i ≡ Some a → slice_get pairs j ≡ Some b → is_before a b ≡ true
+
+-- what holds of the legs of a route: their pairs ascend, and each has cells
+pub record AreLegs (legs : List Leg) : Type 0 where
+  pub ascending : AreAscending (ends_of legs)
+  pub some : All (λ leg. 0 < length leg.cells) legs

@@ -6,6 +6,8 @@ mod examples;
 mod fault;
 mod need;
 mod needs;
+mod parts;
+mod table;
 mod walk;
 
 pub use examples::route_examples;
