@@ -1,2 +1,3 @@
+mod OwnedFacts
 mod TableFacts
 mod WalkFacts

@@ -6,7 +6,9 @@ mod examples;
 mod fault;
 mod need;
 mod needs;
+mod owned;
 mod parts;
+mod redist;
 mod table;
 mod walk;
 
