@@ -1,3 +1,4 @@
 mod OwnedFacts
+mod RouteFacts
 mod TableFacts
 mod WalkFacts

@@ -186,3 +186,8 @@ senders-more src is_needed receivers from total count so_far started is few =
         ∙ ap cells_sent (sym (route-more legs src.first_pet from started));
       few = rw more (omega arith);
     }
+
+-- the legs of a table that began empty
+pub legs-all : (legs : List Leg) (spans : List Span) (cells : List ℕ) → HasLegs [] [] legs spans cells → legs_at spans cells ≡ legs
+unfolding legs_at
+legs-all legs spans cells has = has.added

@@ -1,8 +1,10 @@
 -- Routes: which cells each PET sends to each other.
-use Rattle.std.specs.Prelude.{◌≡◌, ℕ, ◌<◌, ◌==◌, ◌||◌, ◌&&◌, ℤ, Bool, true, not, Some, slice_get, nat_lt, List, [], length, map, filter, ◌∷◌, sum_by, if◌then◌else◌}
+use Rattle.std.specs.Prelude.{◌≡◌, ℕ, ◌<◌, ◌==◌, ◌||◌, ◌&&◌, ℤ, Bool, true, not, Result, Ok, Err, Some, slice_get, nat_lt, List, [], length, map, filter, ◌∷◌, sum_by, if◌then◌else◌}
 use Rattle.std.specs.List.{All, flat_map, list_any, range_with_len}
-use Rattle.cpl_grid.specs.Grid.{neighbour_of}
+use Rattle.cpl_grid.specs.Grid.{cells_in, neighbour_of}
 use Rattle.cpl_grid.specs.Owners.{Layout, cells_of, owner_of, pets_in}
+use Rattle.cpl_route.specs.declared.fault.RouteFault.{RouteFault}
+use Rattle.cpl_route.specs.declared.fault.RouteFault.TheVariants.{SizeDiffers}
 use Rattle.cpl_route.specs.declared.need.Need.{Need}
 
 -- the PETs that have a block, ascending
@@ -43,6 +45,12 @@ is_owned dst pet s = owner_of dst s == pet
 -- a redistribution: each cell goes from its owner to its owner
 abbrev pub redist_route : Layout → Layout → List Leg
 redist_route src dst = route_of src (is_owned dst) (pets_of dst)
+
+-- a redistribution, or the fault that the grids have unequal numbers of cells
+abbrev pub redist_answer : Layout → Layout → Result (List Leg) RouteFault
+redist_answer src dst =
+    if cells_in src.grid == cells_in dst.grid then Ok (redist_route src dst)
+    else Err (SizeDiffers (cells_in src.grid) (cells_in dst.grid))
 
 -- a cell is a neighbour, at one of the offsets, of a cell of the PET
 abbrev pub is_neighbour : Layout → List (ℤ × ℤ) → ℕ → ℕ → Bool

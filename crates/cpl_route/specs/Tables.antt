@@ -1,5 +1,5 @@
 -- A table of legs over one list of cells. The steps of the code, not needed to read what the calls promise.
-use Rattle.std.specs.Prelude.{◌≡◌, ℕ, ◌+◌, ◌*◌, ◌<◌, ◌≤◌, ◌++◌, Bool, true, nat_le, ◌&&◌, List, [], ◌∷◌, length, map, slice_range, take, ◌-◌, ◌^◌}
+use Rattle.std.specs.Prelude.{◌≡◌, ℕ, ◌+◌, ◌*◌, ◌<◌, ◌≤◌, ◌++◌, Bool, List, [], ◌∷◌, length, map, slice_range, take, ◌-◌, ◌^◌}
 use Rattle.std.specs.List.{All, flat_map, range_with_len}
 use Rattle.cpl_route.specs.Routes.{Leg, cells_sent, legs_from}
 use Rattle.cpl_grid.specs.Owners.{Layout}
@@ -34,10 +34,33 @@ pub record HasLegs (before_spans : List Span) (before_cells : List ℕ) (legs : 
   pub table : IsTable spans cells
   pub added : legs_at spans cells ≡ legs_at before_spans before_cells ++ legs
 
--- each number is at least the next that is free, and the next is behind it
-abbrev pub are_rising : ℕ → List ℕ → Bool
-are_rising free [] = true
-are_rising free (x ∷ xs) = nat_le free x && are_rising (x + 1) xs
+-- the numbers rise from one on
+abbrev pub IsRising : ℕ → List ℕ → Type 0
+IsRising free [] = Unit {0}
+IsRising free (x ∷ xs) = (free ≤ x) × IsRising (x + 1) xs
+
+-- the rank of a leg, and of a span
+abbrev pub leg_rank : Leg → ℕ
+leg_rank leg = rank_of leg.from leg.to
+
+abbrev pub span_rank : Span → ℕ
+span_rank span = rank_of span.from span.to
+
+-- what holds of the legs of a route, by their ranks
+pub record AreRankedLegs (legs : List Leg) : Type 0 where
+  pub rising : IsRising 0 (map leg_rank legs)
+  pub bytes : All (λ leg. leg.to < 256) legs
+  pub some : All (λ leg. 0 < length leg.cells) legs
+
+-- the pairs of spans
+abbrev pub pairs_of : List Span → List (ℕ × ℕ)
+pairs_of spans = map (λ span. (span.from, span.to)) spans
+
+-- the pairs of a table whose legs are ranked
+pub record IsRoute (pairs : List (ℕ × ℕ)) (spans : List Span) (cells : List ℕ) : Type 0 where
+  pub table : IsTable spans cells
+  pub ranked : AreRankedLegs (legs_at spans cells)
+  pub ends : pairs ≡ pairs_of spans
 
 -- so many receivers were gone through
 pub record HasReceivers (src : Layout) (is_needed : ℕ → ℕ → Bool) (receivers : List ℕ) (from place : ℕ) (total : ℕ) : Type 0 where

@@ -9,9 +9,11 @@ mod needs;
 mod owned;
 mod parts;
 mod redist;
+mod route;
 mod table;
 mod walk;
 
 pub use examples::route_examples;
 pub use fault::RouteFault;
 pub use need::Need;
+pub use route::Route;
