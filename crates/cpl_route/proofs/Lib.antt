@@ -1,4 +1,5 @@
 mod OwnedFacts
+mod PickFacts
 mod RouteFacts
 mod TableFacts
 mod WalkFacts

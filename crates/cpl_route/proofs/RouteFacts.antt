@@ -12,8 +12,8 @@ use Rattle.std.specs.List.Sorted.{IsNonDecreasingBy, IsPartitionPoint, IsPartiti
 use Rattle.cpl_grid.proofs.RangeFacts.{All-range}
 use Rattle.cpl_grid.specs.Grid.{cells_in}
 use Rattle.cpl_grid.specs.Owners.{IsLayout, Layout, pets_in}
-use Rattle.cpl_route.specs.Routes.{AreAscending, AreLegs, Leg, cells_between, cells_sent, ends_of, has_cells, is_before, is_between, leg_between, legs_from, pets_of, redist_answer, redist_route, route_of}
-use Rattle.cpl_route.specs.Tables.{AreRankedLegs, IsRising, IsSpan, leg_at, leg_rank, legs_at, pairs_of, rank_of, span_rank}
+use Rattle.cpl_route.specs.Routes.{AreAscending, AreLegs, IsRising, Leg, cells_between, cells_sent, ends_of, has_cells, is_before, is_between, leg_between, legs_from, pets_of, redist_answer, redist_route, route_of}
+use Rattle.cpl_route.specs.Tables.{AreRankedLegs, IsSpan, leg_at, leg_rank, legs_at, pairs_of, rank_of, span_rank}
 use Rattle.cpl_route.specs.declared.table.Span.{Span}
 
 -- numbers that rise from one on, rise from a lower one on

@@ -1,5 +1,6 @@
 pub mod Examples
 pub mod Kept
+pub mod Picks
 pub mod Places
 pub mod Routes
 pub mod Tables

@@ -1,7 +1,7 @@
 -- A table of legs over one list of cells. The steps of the code, not needed to read what the calls promise.
 use Rattle.std.specs.Prelude.{◌≡◌, ℕ, ◌+◌, ◌*◌, ◌<◌, ◌≤◌, ◌++◌, Bool, List, [], ◌∷◌, length, map, slice_range, take, ◌-◌, ◌^◌}
 use Rattle.std.specs.List.{All, flat_map, range_with_len}
-use Rattle.cpl_route.specs.Routes.{Leg, cells_sent, legs_from}
+use Rattle.cpl_route.specs.Routes.{IsRising, Leg, cells_sent, legs_from}
 use Rattle.cpl_grid.specs.Owners.{Layout}
 use Rattle.cpl_route.specs.declared.table.Span.{Span}
 
@@ -33,11 +33,6 @@ pub record IsTable (spans : List Span) (cells : List ℕ) : Type 0 where
 pub record HasLegs (before_spans : List Span) (before_cells : List ℕ) (legs : List Leg) (spans : List Span) (cells : List ℕ) : Type 0 where
   pub table : IsTable spans cells
   pub added : legs_at spans cells ≡ legs_at before_spans before_cells ++ legs
-
--- the numbers rise from one on
-abbrev pub IsRising : ℕ → List ℕ → Type 0
-IsRising free [] = Unit {0}
-IsRising free (x ∷ xs) = (free ≤ x) × IsRising (x + 1) xs
 
 -- the rank of a leg, and of a span
 abbrev pub leg_rank : Leg → ℕ

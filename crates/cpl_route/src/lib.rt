@@ -8,12 +8,14 @@ mod need;
 mod needs;
 mod owned;
 mod parts;
+mod pick;
 mod redist;
 mod route;
+mod sorted;
 mod table;
 mod walk;
 
 pub use examples::route_examples;
 pub use fault::RouteFault;
-pub use need::Need;
+pub use need::{Need, are_ascending};
 pub use route::Route;

@@ -1,15 +1,18 @@
 //! Routes: which cells each PET sends to each other.
 
-ghost use Rattle.std.specs.Prelude.{◌≡◌, ℕ, ◌+◌, ◌≤◌, ◌<◌, List, nat_lt, ◌==◌, ◌&&◌, length, map, slice_range, IfOk};
+ghost use Rattle.std.specs.Prelude.{◌≡◌, ℕ, ◌+◌, ◌≤◌, ◌<◌, IsTrue, true, List, nat_lt, ◌==◌, ◌&&◌, length, map, slice_range, IfOk};
 ghost use Rattle.std.specs.List.{All};
 ghost use Rattle.cpl_base.specs.Gives.{Gives};
 ghost use Rattle.cpl_grid.specs.Grid.{cells_in};
-ghost use Rattle.cpl_route.specs.Routes.{AreLegs, cells_between, cells_sent, ends_of, redist_answer, redist_route};
-ghost use Rattle.cpl_route.specs.Tables.{AreRankedLegs, IsRising, IsSpan, IsTable, legs_at, pairs_of, rank_of, span_rank};
+ghost use Rattle.cpl_route.specs.Routes.{AreLegs, ArePetsDistinct, IsRising, are_ascending, cells_between, cells_sent, ends_of, pick_route, redist_answer, redist_route};
+ghost use Rattle.cpl_route.specs.Tables.{AreRankedLegs, IsSpan, IsTable, legs_at, pairs_of, rank_of, span_rank};
 ghost use Rattle.cpl_route.specs.declared.fault.RouteFault.{RouteFault};
 
 use crate::fault::RouteFault;
+use crate::need::{Need, are_ascending};
+use crate::pick::pick_of;
 use crate::redist::redist_between;
+use crate::sorted::ascending_needs;
 use crate::table::{Span, Table, table_of, total_of};
 use cpl_base::Memory;
 use cpl_grid::Decomp;
@@ -75,6 +78,37 @@ impl Route {
         total_of(&redist_between(src, dst))
     }
 
+    /// The route by which each PET gets the cells of its list from the PETs that own them: each cell of the list that the
+    /// grid has once, however often and in whatever order the list names it. The lists are of distinct PETs, which need
+    /// not own cells of the grid. Takes four bytes a cell, and where the lists aren't in order a copy of them for as long
+    /// as it works.
+    ///
+    /// Errors: `Memory`.
+    ///
+    /// Source: ESMF Reference Manual, sparse matrix multiplication of Arrays.
+    pub fn pick(alloc: Global, src: &Decomp, needs: &[Need]) -> Result<Route, Memory>
+        requires { ArePetsDistinct needs.now }
+        ensures { IfOk result (λ route. route ≡ pick_route src.now needs.now) }
+    {
+        if are_ascending(needs) {
+            let route = pick_ascending(alloc, src, needs)?;
+            return Ok(route);
+        }
+        let copies = ascending_needs(alloc, needs)?;
+        let route = pick_ascending(alloc, src, copies.as_slice())?;
+        Ok(route)
+    }
+
+    /// How many cells the route of `pick` sends, for lists in the order of `are_ascending`. Takes no memory.
+    ///
+    /// Source: this project's own.
+    pub fn pick_total(src: &Decomp, needs: &[Need]) -> u64
+        requires { IsTrue (are_ascending needs.now) }
+        ensures { result ≡ cells_sent (pick_route src.now needs.now) }
+    {
+        total_of(&pick_of(src, needs))
+    }
+
     /// The pairs of PETs with cells, sender and receiver, by sender and then by receiver.
     ///
     /// Source: this project's own.
@@ -104,6 +138,18 @@ impl Route {
     {
         self.cells.len() as u64
     }
+}
+
+/// The route of lists in order.
+fn pick_ascending(alloc: Global, src: &Decomp, needs: &[Need]) -> Result<Route, Memory>
+    requires { are_ascending needs.now ≡ true }
+    ensures { IfOk result (λ route. route ≡ pick_route src.now needs.now) }
+{
+    let pick = pick_of(src, needs);
+    let room = total_of(&pick) as usize;
+    let table = table_of(alloc, &pick, room)?;
+    let route = route_with(alloc, table)?;
+    Ok(route)
 }
 
 /// The route with the legs of a table.
