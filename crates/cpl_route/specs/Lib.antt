@@ -1,4 +1,5 @@
 pub mod Examples
 pub mod Places
+pub mod Reach
 pub mod Routes
 pub mod Walks

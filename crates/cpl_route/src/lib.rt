@@ -4,8 +4,10 @@
 
 mod examples;
 mod fault;
+mod halo_pair;
 mod need;
 mod needs;
+mod reach;
 mod walk;
 
 pub use examples::route_examples;
