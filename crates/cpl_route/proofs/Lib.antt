@@ -1,1 +1,2 @@
+mod ReachFacts
 mod WalkFacts

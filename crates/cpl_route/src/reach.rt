@@ -148,7 +148,8 @@ fn together(far_back: Reach, back: Reach, here: Reach, ahead: Reach, far_ahead: 
     requires ahead { IsReachIn (2 ^ 20) ahead }
     requires far_ahead { IsReachIn (2 ^ 20) far_ahead }
     ensures each { result.each ≡ far_back ∷ back ∷ here ∷ ahead ∷ far_ahead ∷ [] }
-    ensures small { result.hull.start + result.hull.length ≤ 2 ^ 20 }
+    ensures small { All (IsReachIn (2 ^ 20)) result.each }
+    ensures hull_small { result.hull.start + result.hull.length ≤ 2 ^ 20 }
     ensures hull { All (IsWithin result.hull) result.each }
 {
     let before = around(hull_of(far_back), hull_of(back));
