@@ -1,2 +1,3 @@
+mod HaloFacts
 mod ReachFacts
 mod WalkFacts

@@ -1,19 +1,22 @@
 -- The places that lie at an offset from those of a block.
-use Rattle.std.proofs.Common.{◌≡◌, ℕ, zero, suc, ◌+◌, ◌-◌, ◌*◌, ◌%◌, ◌<◌, ◌≤◌, ◌^◌, min, eqb, Bool, true, false, ◌||◌, ℤ, pos, negsuc, ◌+ℤ◌, ◌-ℤ◌, List, [], ◌∷◌, length, get_or, refl, sym, ap, ◌∙◌, inl, inr, arith}
+use Rattle.std.proofs.Common.{◌≡◌, ℕ, zero, suc, ◌+◌, ◌-◌, ◌*◌, ◌%◌, ◌<◌, ◌≤◌, ◌^◌, min, eqb, Bool, true, false, ◌||◌, ℤ, pos, negsuc, ◌+ℤ◌, ◌-ℤ◌, List, [], ◌∷◌, length, get_or, take, refl, sym, ap, subst, ◌∙◌, inl, inr, arith}
 use Rattle.std.specs.Prelude.{unsigned_abs}
 use Rattle.std.specs.Int.{int_rem_euclid}
 use Rattle.std.specs.List.{All, Any, list_any, range_with_len}
-use Rattle.std.proofs.lemmas.Bool.{cases_eq, cases_lt, eq-eqb, eqb-true, nat_tests, or_cases, or_left, or_right}
+use Rattle.std.proofs.lemmas.Bool.{cases_eq, cases_lt, eq-eqb, eqb-true, false_from_ne_true, or_cases, or_left, or_right}
+use Rattle.std.proofs.lemmas.Bool.Decides.{nat_tests}
 use Rattle.std.proofs.lemmas.Int.{clamps, int_rem_euclid_is, ints}
 use Rattle.std.proofs.lemmas.List.Folds.{Any-from_list_any, list_any_at}
+use Rattle.std.proofs.lemmas.List.Elements.{All-cons, All-more, All-nil, All-weaker}
 use Rattle.std.proofs.lemmas.List.FromFn.{get_or-range_with_len, length-range_with_len}
 use Rattle.std.proofs.lemmas.Nat.{mod-mul-add, mod_below}
+use Rattle.std.proofs.Math.ListN.{get_or-eq_default}
 use Rattle.std.proofs.Math.Nat.{mod-add-mod}
 use Rattle.cpl_grid.specs.Grid.{IsOffset, column_at, nearest_number, ring_number, row_at}
 use Rattle.cpl_grid.specs.declared.blocks.Block.{Block}
 use Rattle.cpl_grid.specs.declared.grid.Grid.{Grid}
 use Rattle.cpl_route.specs.Places.{is_held}
-use Rattle.cpl_route.specs.Reach.{AreReaches, IsImage, IsReachIn, IsWithin, edge_place, is_reached, nowhere, reach_for, reaches_place, ring_place, steps_from_least}
+use Rattle.cpl_route.specs.Reach.{AreReaches, AreSteady, IsImage, IsReachIn, IsSteady, IsWithin, edge_place, is_reached, nowhere, reach_for, reaches_place, ring_place, steps_from_least}
 use Rattle.cpl_route.specs.declared.reach.Reach.{Reach}
 use Rattle.cpl_route.specs.declared.reach.Reaches.{Reaches}
 
@@ -204,3 +207,46 @@ reaches-each number_at block reaches far_back back here ahead far_ahead five sma
       hull_small = hull_small;
       hull = λ offset within i reached. (hull (steps_from_least offset) nowhere (omega (arith, ints))).held i reached;
     }
+
+-- a block around one that has a reach has it too
+pub within-around : (block hull : Block) (reach : Reach) → IsWithin block reach → ((i : ℕ) → is_held block i ≡ true → is_held hull i ≡ true) → IsWithin hull reach
+within-around block hull reach is around = record { held = λ i reached. around i (is.held i reached) }
+
+-- what holds of each of five
+pub All-five : (P : Reach → Type 0) (a b c d e : Reach) → P a → P b → P c → P d → P e → All P (a ∷ b ∷ c ∷ d ∷ e ∷ [])
+All-five P a b c d e is_a is_b is_c is_d is_e =
+    All-cons P a (b ∷ c ∷ d ∷ e ∷ []) is_a
+      (All-cons P b (c ∷ d ∷ e ∷ []) is_b (All-cons P c (d ∷ e ∷ []) is_c (All-cons P d (e ∷ []) is_d (All-cons P e [] is_e (All-nil P)))))
+
+-- one reach more is steady, up to an end that isn't further
+pub steady-more : (reaches : List Reach) (k place limit end next : ℕ) (d : Reach) → AreSteady (take k reaches) place limit end → k < length reaches → IsSteady (is_reached (get_or reaches k d)) place end next → AreSteady (take (k + 1) reaches) place limit next
+steady-more reaches k place limit end next d before inside steady =
+    let P : Reach → Type 0 = λ one. (i : ℕ) → place ≤ i → i < next → is_reached one i ≡ is_reached one place in
+    let Q : Reach → Type 0 = λ one. (i : ℕ) → place ≤ i → i < end → is_reached one i ≡ is_reached one place in
+    let nearer = steady.within in
+    let further = before.within in
+    record {
+      some = steady.some;
+      within = omega arith;
+      same = All-more P reaches k d inside (All-weaker Q P (λ one same i from to. same i from (omega arith)) (take k reaches) before.same) steady.same;
+    }
+
+-- nothing is reached nowhere
+nowhere-none : (i : ℕ) → is_reached nowhere i ≡ false
+nowhere-none i =
+    let none : Block = record { start = 0; length = 0 } in
+    false_from_ne_true (is_reached nowhere i) (λ reached. elim (or_cases (is_held none i) (is_held none i) reached) [
+      | inl held ↦ let ends = held-to none i held in omega arith
+      | inr held ↦ let ends = held-to none i held in omega arith
+    ])
+
+-- steady reaches are steady at each offset
+pub steady-reach : (reaches : Reaches) (place limit end : ℕ) → AreSteady reaches.each place limit end → (offset : ℤ) (i : ℕ) → place ≤ i → i < end → is_reached (reach_for reaches offset) i ≡ is_reached (reach_for reaches offset) place
+steady-reach reaches place limit end steady offset i from to =
+    let k = steps_from_least offset in
+    elim (cases_lt k (length reaches.each)) [
+      | inl inside ↦ steady.same k nowhere inside i from to
+      | inr outside ↦
+          let none : get_or reaches.each k nowhere ≡ nowhere = get_or-eq_default reaches.each nowhere outside in
+          ap (λ reach. is_reached reach i) none ∙ nowhere-none i ∙ sym (ap (λ reach. is_reached reach place) none ∙ nowhere-none place)
+    ]

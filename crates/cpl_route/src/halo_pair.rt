@@ -1,9 +1,11 @@
 //! What a PET needs for its halo: the neighbours of its cells that aren't its own, by rows and columns.
 
-ghost use Rattle.std.specs.Prelude.{◌≡◌, ◌+◌, ◌≤◌, ◌<◌, [], filter, IsTrue};
+ghost use Rattle.std.specs.Prelude.{◌≡◌, ◌+◌, ◌&&◌, not, [], filter, IsTrue};
+ghost use Rattle.cpl_grid.specs.Grid.{IsOffset};
 ghost use Rattle.cpl_grid.specs.Owners.{IsPet};
 ghost use Rattle.cpl_grid.specs.Parts.{IsPart, cells_of_part};
-ghost use Rattle.cpl_route.specs.Reach.{AreOffsets, IsSound, is_met};
+ghost use Rattle.cpl_route.specs.Places.{is_held};
+ghost use Rattle.cpl_route.specs.Reach.{AreOffsets, IsSound, is_met, is_reached, reach_for};
 ghost use Rattle.cpl_route.specs.Routes.{is_halo};
 
 use crate::needs::{Needs, Stretch, block_stretch};
@@ -59,17 +61,37 @@ impl<'a> HaloPair<'a> {
         self.columns.misses(part.columns) || self.rows.misses(part.rows)
     }
 
+    /// Whether the cell in a row and a column is needed: it isn't the PET's own, and a neighbour.
+    fn needs_cell(&self, row: u32, column: u32, is_own_column: bool) -> bool
+        requires { IsSound self.now }
+        ensures { result ≡ (not (is_own_column && is_held self.now.part.rows row) && is_met self.now.columns self.now.rows self.now.offsets.now row column) }
+    {
+        let is_own = is_own_column && holds(self.part.rows, row);
+        !is_own && self.meets(row, column)
+    }
+
     /// Whether a neighbour of a cell of the PET lies in a row and a column.
     fn meets(&self, row: u32, column: u32) -> bool
         requires { IsSound self.now }
         ensures { result ≡ is_met self.now.columns self.now.rows self.now.offsets.now row column }
     {
         for offset in self.offsets {
-            if self.columns.holds(offset.0, column) && self.rows.holds(offset.1, row) {
+            if self.lies_at(*offset, row, column) {
                 return true;
             }
         }
         false
+    }
+
+    /// Whether a row and a column are those of cells at an offset from the PET's.
+    fn lies_at(&self, offset: (i8, i8), row: u32, column: u32) -> bool
+        requires sound { IsSound self.now }
+        requires across { IsOffset offset.0 }
+        requires down { IsOffset offset.1 }
+        ensures { result ≡ (is_reached (reach_for self.now.columns offset.0) column && is_reached (reach_for self.now.rows offset.1) row) }
+    {
+        let (dx, dy) = offset;
+        self.columns.holds(dx, column) && self.rows.holds(dy, row)
     }
 }
 
@@ -86,9 +108,8 @@ impl Needs for HaloPair<'_> {
     fn stretch(&self, row: u32, column: u32, limit: u32) -> Stretch {
         let own = block_stretch(self.part.columns, column, limit);
         let end = self.columns.stretch_end(column, own.end);
-        let is_own = own.needed && holds(self.part.rows, row);
         Stretch {
-            needed: !is_own && self.meets(row, column),
+            needed: self.needs_cell(row, column, own.needed),
             end,
         }
     }

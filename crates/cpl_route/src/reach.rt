@@ -4,7 +4,7 @@ ghost use Rattle.std.specs.Prelude.{◌≡◌, ℕ, ◌+◌, ◌≤◌, ◌<◌,
 ghost use Rattle.std.specs.List.{All};
 ghost use Rattle.cpl_grid.specs.Grid.{IsGrid, IsOffset, column_at, row_at};
 ghost use Rattle.cpl_route.specs.Places.{is_held};
-ghost use Rattle.cpl_route.specs.Reach.{AreReaches, AreSteady, IsImage, IsReachIn, IsSteady, IsWithin, edge_place, is_reached, reach_for, reaches_column, reaches_row, ring_place};
+ghost use Rattle.cpl_route.specs.Reach.{AreReaches, AreSteady, IsImage, IsReachIn, IsSteady, IsWithin, edge_place, is_reached, reach_for, reaches_column, reaches_row, ring_place, steps_from_least};
 
 use crate::needs::block_stretch;
 use cpl_grid::{Block, Grid};
@@ -35,7 +35,7 @@ pub(crate) fn columns_reached(grid: Grid, block: Block, dx: i8) -> Reach
     ensures columns { (i : ℕ) → is_reached result i ≡ reaches_column grid block dx i }
     ensures within { IsReachIn grid.nx result }
 {
-    let steps = (dx + 2) as u32;
+    let steps = steps_of(dx);
     if grid.periodic {
         ring_reach(grid.nx, block, steps)
     } else {
@@ -51,7 +51,8 @@ pub(crate) fn rows_reached(grid: Grid, block: Block, dy: i8) -> Reach
     ensures rows { (j : ℕ) → is_reached result j ≡ reaches_row grid block dy j }
     ensures within { IsReachIn grid.ny result }
 {
-    edge_reach(grid.ny, block, (dy + 2) as u32)
+    let steps = steps_of(dy);
+    edge_reach(grid.ny, block, steps)
 }
 
 impl Reach {
@@ -110,7 +111,7 @@ impl Reaches {
         requires offset { IsOffset offset }
         ensures { result ≡ is_reached (reach_for self.now offset) place }
     {
-        let reach = self.each[(offset + 2) as usize];
+        let reach = self.each[steps_of(offset) as usize];
         reach.holds(place)
     }
 
@@ -138,6 +139,15 @@ impl Reaches {
         block.start + block.length <= self.hull.start
             || self.hull.start + self.hull.length <= block.start
     }
+}
+
+/// An offset, counted from -2.
+fn steps_of(offset: i8) -> u32
+    requires { IsOffset offset }
+    ensures value { result ≡ steps_from_least offset }
+    ensures within { result ≤ 4 }
+{
+    (offset + 2) as u32
 }
 
 /// The places at the five offsets, with a block that has them all.

@@ -1,0 +1,7 @@
+use Rattle.cpl_route.proofs.HaloFacts.{halo-alike}
+use Rattle.cpl_route.proofs.halo_pair.HaloPairNeeds.alike_to.Goals as goal
+
+pub returns : goal.returns
+returns c =
+    halo-alike c.args.self.now c.args.row c.args.limit c.block_stretch-own.result.end c.stretch_end.result c.block_stretch-own.result.needed
+      c.requires.sound c.requires.limit c.block_stretch-own.ensures.some c.block_stretch-own.ensures.within c.block_stretch-own.ensures.same c.stretch_end.ensures
