@@ -15,9 +15,10 @@ use Rattle.cpl_grid.specs.declared.blocks.Part.{Part}
 use Rattle.cpl_grid.specs.declared.grid.Grid.{Grid}
 use Rattle.cpl_grid.proofs.RangeFacts.{All-range, filter-range_none}
 use Rattle.cpl_route.specs.Places.{AreAlike, IsStretch, cell_in, is_held, needed_in_row, needed_in_rows}
-use Rattle.cpl_route.specs.Reach.{AreOffsets, AreReaches, AreSteady, IsSound, is_met, is_reached, reach_for, reaches_place}
+use Rattle.cpl_route.specs.Reach.{AreOffsets, AreReaches, AreSteady, IsSound, is_met, is_reached, is_used_across, is_used_down, reach_for, steps_from_least}
 use Rattle.cpl_route.specs.Routes.{is_halo, is_neighbour}
 use Rattle.cpl_route.specs.declared.halo_pair.HaloPair.{HaloPair}
+use Rattle.cpl_route.specs.declared.needs.Stretch.{Stretch}
 use Rattle.cpl_route.specs.declared.reach.Reaches.{Reaches}
 use Rattle.cpl_route.proofs.ReachFacts.{held-from, held-to, reaches-from, reaches-to, same_test, steady-reach}
 use Rattle.cpl_route.proofs.WalkFacts.{needed-part}
@@ -80,8 +81,22 @@ cells_of-own layout pet k t inside is =
     let within : P t = subst P is (each k t inside) in
     (eqb-true (owner_of layout t) pet passes, record { from_one = within.0; within = omega arith })
 
+-- the offset along the columns of one of the offsets is used
+used-across : (offsets : List (ℤ × ℤ)) (k : ℕ) (offset : ℤ × ℤ) → k < length offsets → get_or offsets k offset ≡ offset → is_used_across offsets offset.0 ≡ true
+unfolding is_used_across
+used-across offsets k offset inside is =
+    let test : ℤ × ℤ → Bool = λ one. eqb (steps_from_least one.0) (steps_from_least offset.0) in
+    list_any_at test offsets k offset inside (ap test is ∙ eq-eqb (steps_from_least offset.0) (steps_from_least offset.0) refl)
+
+-- and that along the rows
+used-down : (offsets : List (ℤ × ℤ)) (k : ℕ) (offset : ℤ × ℤ) → k < length offsets → get_or offsets k offset ≡ offset → is_used_down offsets offset.1 ≡ true
+unfolding is_used_down
+used-down offsets k offset inside is =
+    let test : ℤ × ℤ → Bool = λ one. eqb (steps_from_least one.1) (steps_from_least offset.1) in
+    list_any_at test offsets k offset inside (ap test is ∙ eq-eqb (steps_from_least offset.1) (steps_from_least offset.1) refl)
+
 -- a neighbour lies in the column and the row that are reached
-met-from : (layout : Layout) (offsets : List (ℤ × ℤ)) (pet : ℕ) (part : Part) (columns rows : Reaches) (i j s : ℕ) → IsNumbering layout.grid → IsPartOf layout pet part → AreOffsets offsets → AreReaches (column_at layout.grid) part.columns columns → AreReaches (row_at layout.grid) part.rows rows → IsAt layout.grid i j s → is_neighbour layout offsets pet s ≡ true → is_met columns rows offsets j i ≡ true
+met-from : (layout : Layout) (offsets : List (ℤ × ℤ)) (pet : ℕ) (part : Part) (columns rows : Reaches) (i j s : ℕ) → IsNumbering layout.grid → IsPartOf layout pet part → AreOffsets offsets → AreReaches (column_at layout.grid) (is_used_across offsets) part.columns columns → AreReaches (row_at layout.grid) (is_used_down offsets) part.rows rows → IsAt layout.grid i j s → is_neighbour layout offsets pet s ≡ true → is_met columns rows offsets j i ≡ true
 met-from layout offsets pet part columns rows i j s numbering is within across down at neighbour =
     let grid = layout.grid in
     let test : ℤ × ℤ → Bool = λ offset. is_reached (reach_for columns offset.0) i && is_reached (reach_for rows offset.1) j in
@@ -106,8 +121,8 @@ met-from layout offsets pet part columns rows i j s numbering is within across d
     let small : P offset = subst P way.3 (within way.0 offset way.2) in
     let column_at_i : column_at grid (pos (column_of grid t - 1 + 1) +ℤ offset.0) ≡ i + 1 = ap (λ k. column_at grid (pos k +ℤ offset.0)) column ∙ sym (numbering.neighbour_column t offset.0 offset.1) ∙ ap (column_of grid) same ∙ at.column_is in
     let row_at_j : row_at grid (pos (row_of grid t - 1 + 1) +ℤ offset.1) ≡ j + 1 = ap (λ k. row_at grid (pos k +ℤ offset.1)) row ∙ sym (numbering.neighbour_row t offset.0 offset.1) ∙ ap (row_of grid) same ∙ at.row_is in
-    let reached_column : is_reached (reach_for columns offset.0) i ≡ true = across.places offset.0 small.0 i ∙ reaches-from (column_at grid) part.columns offset.0 i (column_of grid t - 1) left right column_at_i in
-    let reached_row : is_reached (reach_for rows offset.1) j ≡ true = down.places offset.1 small.1 j ∙ reaches-from (row_at grid) part.rows offset.1 j (row_of grid t - 1) above below row_at_j in
+    let reached_column : is_reached (reach_for columns offset.0) i ≡ true = across.places offset.0 small.0 (used-across offsets way.0 offset way.2 way.3) i ∙ reaches-from (column_at grid) part.columns offset.0 i (column_of grid t - 1) left right column_at_i in
+    let reached_row : is_reached (reach_for rows offset.1) j ≡ true = down.places offset.1 small.1 (used-down offsets way.0 offset way.2 way.3) j ∙ reaches-from (row_at grid) part.rows offset.1 j (row_of grid t - 1) above below row_at_j in
     list_any_at test offsets way.0 offset way.2 (ap test way.3 ∙ both_true reached_column reached_row)
 
 -- a cell is the neighbour of one from whose column its column comes, and from whose row its row
@@ -120,7 +135,7 @@ neighbour-is grid i j a b s dx dy numbering at column row column_is row_is =
     sym (numbering.index_again n (numbering.neighbour_cell t dx dy)) ∙ ap (λ k. index_of grid k (row_of grid n)) across ∙ ap (index_of grid (i + 1)) down ∙ at.index
 
 -- what lies in a column and a row that are reached is a neighbour
-met-to : (layout : Layout) (offsets : List (ℤ × ℤ)) (pet : ℕ) (part : Part) (columns rows : Reaches) (i j s : ℕ) → IsNumbering layout.grid → IsPartOf layout pet part → AreOffsets offsets → AreReaches (column_at layout.grid) part.columns columns → AreReaches (row_at layout.grid) part.rows rows → IsAt layout.grid i j s → is_met columns rows offsets j i ≡ true → is_neighbour layout offsets pet s ≡ true
+met-to : (layout : Layout) (offsets : List (ℤ × ℤ)) (pet : ℕ) (part : Part) (columns rows : Reaches) (i j s : ℕ) → IsNumbering layout.grid → IsPartOf layout pet part → AreOffsets offsets → AreReaches (column_at layout.grid) (is_used_across offsets) part.columns columns → AreReaches (row_at layout.grid) (is_used_down offsets) part.rows rows → IsAt layout.grid i j s → is_met columns rows offsets j i ≡ true → is_neighbour layout offsets pet s ≡ true
 met-to layout offsets pet part columns rows i j s numbering is within across down at met =
     let grid = layout.grid in
     let test : ℤ × ℤ → Bool = λ offset. is_reached (reach_for columns offset.0) i && is_reached (reach_for rows offset.1) j in
@@ -129,8 +144,8 @@ met-to layout offsets pet part columns rows i j s numbering is within across dow
     let P : ℤ × ℤ → Type 0 = λ one. IsOffset one.0 × IsOffset one.1 in
     let small : P offset = subst P way.3 (within way.0 offset way.2) in
     let both = and_parts (is_reached (reach_for columns offset.0) i) (is_reached (reach_for rows offset.1) j) way.4 in
-    let column = reaches-to (column_at grid) part.columns offset.0 i (sym (across.places offset.0 small.0 i) ∙ both.0) in
-    let row = reaches-to (row_at grid) part.rows offset.1 j (sym (down.places offset.1 small.1 j) ∙ both.1) in
+    let column = reaches-to (column_at grid) part.columns offset.0 i (sym (across.places offset.0 small.0 (used-across offsets way.0 offset way.2 way.3) i) ∙ both.0) in
+    let row = reaches-to (row_at grid) part.rows offset.1 j (sym (down.places offset.1 small.1 (used-down offsets way.0 offset way.2 way.3) j) ∙ both.1) in
     let a = column.0 in
     let b = row.0 in
     let width = is.within.columns in
@@ -178,9 +193,90 @@ met-rows : (columns rows : Reaches) (offsets : List (ℤ × ℤ)) (j row column 
 met-rows columns rows offsets j row column same =
     λ t. list_any (λ offset. is_reached (reach_for columns offset.0) column && same offset.1 t) offsets
 
--- columns that are held and reached alike are needed alike
-pub halo-stretch : (pair : HaloPair) (row column limit own_end end : ℕ) (own needed : Bool) → IsSound pair → row < pair.decomp.now.grid.ny → limit ≤ pair.decomp.now.grid.nx → own_end ≤ limit → ((i : ℕ) → column ≤ i → i < own_end → is_held pair.part.columns i ≡ own) → AreSteady pair.columns.each column own_end end → needed ≡ (not (own && is_held pair.part.rows row) && is_met pair.columns pair.rows pair.offsets.now row column) → IsStretch (is_halo pair.decomp.now pair.offsets.now pair.pet) pair.decomp.now.grid.nx row column limit (record { needed = needed; end = end })
-halo-stretch pair row column limit own_end end own needed sound below most nearer held steady is =
+-- a place outside the hull isn't reached
+hull-outside : (number_at : ℤ → ℕ) (is_used : ℤ → Bool) (block : Block) (reaches : Reaches) (offset : ℤ) (i : ℕ) → AreReaches number_at is_used block reaches → IsOffset offset → is_held reaches.hull i ≡ false → is_reached (reach_for reaches offset) i ≡ false
+hull-outside number_at is_used block reaches offset i are small outside =
+    false_from_ne_true (is_reached (reach_for reaches offset) i) (λ reached.
+      let held = are.hull offset small i reached in cc)
+
+-- a test of which the first part fails
+pub and_false-left : (x y : Bool) → x ≡ false → (x && y) ≡ false
+and_false-left x y fails = rw fails refl
+
+-- a test of which the second part fails
+pub and_false-right : (x y : Bool) → y ≡ false → (x && y) ≡ false
+and_false-right true y fails = fails
+and_false-right false y fails = refl
+
+-- where none of the columns of an offset is reached, the cell isn't needed
+unneeded-column : (pair : HaloPair) (i j : ℕ) → IsSound pair → i < pair.decomp.now.grid.nx → j < pair.decomp.now.grid.ny → is_held pair.columns.hull i ≡ false → is_halo pair.decomp.now pair.offsets.now pair.pet (cell_in pair.decomp.now.grid.nx j i) ≡ false
+unneeded-column pair i j sound right below outside =
+    let P : ℤ × ℤ → Type 0 = λ offset. IsOffset offset.0 × IsOffset offset.1 in
+    let test : ℤ × ℤ → Bool = λ offset. is_reached (reach_for pair.columns offset.0) i && is_reached (reach_for pair.rows offset.1) j in
+    let Q : ℤ × ℤ → Type 0 = λ offset. test offset ≡ false in
+    let none : list_any test pair.offsets.now ≡ false = list_any_none test pair.offsets.now (All-weaker P Q
+      (λ offset small. and_false-left (is_reached (reach_for pair.columns offset.0) i) (is_reached (reach_for pair.rows offset.1) j)
+        (hull-outside (column_at pair.decomp.now.grid) (is_used_across pair.offsets.now) pair.part.columns pair.columns offset.0 i sound.columns small.0 outside))
+      pair.offsets.now sound.offsets) in
+    halo-met pair i j sound right below
+    ∙ and_false-right (not (is_held pair.part.columns i && is_held pair.part.rows j)) (list_any test pair.offsets.now) none
+
+-- nor where none of the rows is
+unneeded-row : (pair : HaloPair) (i j : ℕ) → IsSound pair → i < pair.decomp.now.grid.nx → j < pair.decomp.now.grid.ny → is_held pair.rows.hull j ≡ false → is_halo pair.decomp.now pair.offsets.now pair.pet (cell_in pair.decomp.now.grid.nx j i) ≡ false
+unneeded-row pair i j sound right below outside =
+    let P : ℤ × ℤ → Type 0 = λ offset. IsOffset offset.0 × IsOffset offset.1 in
+    let test : ℤ × ℤ → Bool = λ offset. is_reached (reach_for pair.columns offset.0) i && is_reached (reach_for pair.rows offset.1) j in
+    let Q : ℤ × ℤ → Type 0 = λ offset. test offset ≡ false in
+    let none : list_any test pair.offsets.now ≡ false = list_any_none test pair.offsets.now (All-weaker P Q
+      (λ offset small. and_false-right (is_reached (reach_for pair.columns offset.0) i) (is_reached (reach_for pair.rows offset.1) j)
+        (hull-outside (row_at pair.decomp.now.grid) (is_used_down pair.offsets.now) pair.part.rows pair.rows offset.1 j sound.rows small.1 outside))
+      pair.offsets.now sound.offsets) in
+    halo-met pair i j sound right below
+    ∙ and_false-right (not (is_held pair.part.columns i && is_held pair.part.rows j)) (list_any test pair.offsets.now) none
+
+-- nor where the PET owns it
+unneeded-own : (pair : HaloPair) (i j : ℕ) → IsSound pair → i < pair.decomp.now.grid.nx → j < pair.decomp.now.grid.ny → (is_held pair.part.columns i && is_held pair.part.rows j) ≡ true → is_halo pair.decomp.now pair.offsets.now pair.pet (cell_in pair.decomp.now.grid.nx j i) ≡ false
+unneeded-own pair i j sound right below own =
+    halo-met pair i j sound right below ∙ ap (λ own. not own && is_met pair.columns pair.rows pair.offsets.now j i) own
+
+-- columns of which none is needed are needed alike
+pub unneeded-stretch : (pair : HaloPair) (row column limit end : ℕ) → column < end → end ≤ limit → ((i : ℕ) → column ≤ i → i < end → is_halo pair.decomp.now pair.offsets.now pair.pet (cell_in pair.decomp.now.grid.nx row i) ≡ false) → IsStretch (is_halo pair.decomp.now pair.offsets.now pair.pet) pair.decomp.now.grid.nx row column limit (record { needed = false; end = end })
+unneeded-stretch pair row column limit end some within none = record { some = some; within = within; same = none }
+
+-- a row outside the hull
+pub row-stretch : (pair : HaloPair) (row column limit : ℕ) → IsSound pair → row < pair.decomp.now.grid.ny → column < limit → limit ≤ pair.decomp.now.grid.nx → is_held pair.rows.hull row ≡ false → IsStretch (is_halo pair.decomp.now pair.offsets.now pair.pet) pair.decomp.now.grid.nx row column limit (record { needed = false; end = limit })
+row-stretch pair row column limit sound below some most outside =
+    unneeded-stretch pair row column limit limit some (omega arith) (λ i from to. unneeded-row pair i row sound (omega arith) below outside)
+
+-- columns outside the hull
+pub column-stretch : (pair : HaloPair) (row column limit : ℕ) (near : Stretch) → IsSound pair → row < pair.decomp.now.grid.ny → limit ≤ pair.decomp.now.grid.nx → column < near.end → near.end ≤ limit → ((i : ℕ) → column ≤ i → i < near.end → is_held pair.columns.hull i ≡ near.needed) → near.needed ≡ false → IsStretch (is_halo pair.decomp.now pair.offsets.now pair.pet) pair.decomp.now.grid.nx row column limit near
+column-stretch pair row column limit near sound below most some within held outside = record {
+  some = some;
+  within = within;
+  same = λ i from to. unneeded-column pair i row sound (omega arith) below (held i from to ∙ outside) ∙ sym outside;
+}
+
+-- columns of the PET's own cells
+pub own-stretch : (pair : HaloPair) (row column limit own_end : ℕ) (own : Bool) → IsSound pair → row < pair.decomp.now.grid.ny → limit ≤ pair.decomp.now.grid.nx → column < own_end → own_end ≤ limit → ((i : ℕ) → column ≤ i → i < own_end → is_held pair.part.columns i ≡ own) → own ≡ true → is_held pair.part.rows row ≡ true → IsStretch (is_halo pair.decomp.now pair.offsets.now pair.pet) pair.decomp.now.grid.nx row column limit (record { needed = false; end = own_end })
+own-stretch pair row column limit own_end own sound below most some within held is_own in_rows =
+    unneeded-stretch pair row column limit own_end some within (λ i from to.
+      unneeded-own pair i row sound (omega arith) below (both_true (held i from to ∙ is_own) in_rows))
+
+-- rows outside the hull are alike
+pub row-alike : (pair : HaloPair) (row limit end : ℕ) (near : Bool) → IsSound pair → limit ≤ pair.decomp.now.grid.ny → row < end → end ≤ limit → ((j : ℕ) → row ≤ j → j < end → is_held pair.rows.hull j ≡ near) → near ≡ false → AreAlike (is_halo pair.decomp.now pair.offsets.now pair.pet) pair.decomp.now.grid.nx row limit end
+row-alike pair row limit end near sound most some within held outside = record {
+  some = some;
+  within = within;
+  alike = record {
+    same = λ j i from to right.
+        unneeded-row pair i j sound right (omega arith) (held j from to ∙ outside)
+        ∙ sym (unneeded-row pair i row sound right (omega arith) (held row (omega arith) some ∙ outside));
+  };
+}
+
+-- columns that are held and reached alike are needed alike, but those of the PET's own cells
+pub halo-stretch : (pair : HaloPair) (row column limit own_end end : ℕ) (own needed : Bool) → IsSound pair → row < pair.decomp.now.grid.ny → limit ≤ pair.decomp.now.grid.nx → own_end ≤ limit → ((i : ℕ) → column ≤ i → i < own_end → is_held pair.part.columns i ≡ own) → (own && is_held pair.part.rows row) ≡ false → AreSteady pair.columns.each column own_end end → needed ≡ is_met pair.columns pair.rows pair.offsets.now row column → IsStretch (is_halo pair.decomp.now pair.offsets.now pair.pet) pair.decomp.now.grid.nx row column limit (record { needed = needed; end = end })
+halo-stretch pair row column limit own_end end own needed sound below most nearer held other steady is =
     let further = steady.within in
     record {
       some = steady.some;
@@ -188,7 +284,8 @@ halo-stretch pair row column limit own_end end own needed sound below most neare
       same = λ i from to.
           halo-met pair i row sound (omega arith) below
           ∙ ap (λ h. not (h && is_held pair.part.rows row) && is_met pair.columns pair.rows pair.offsets.now row i) (held i from (omega arith))
-          ∙ ap (λ met. not (own && is_held pair.part.rows row) && met) (met-columns pair.columns pair.rows pair.offsets.now row i column (λ offset. steady-reach pair.columns column own_end end steady offset i from to))
+          ∙ ap (λ own. not own && is_met pair.columns pair.rows pair.offsets.now row i) other
+          ∙ met-columns pair.columns pair.rows pair.offsets.now row i column (λ offset. steady-reach pair.columns column own_end end steady offset i from to)
           ∙ sym is;
     }
 
@@ -226,53 +323,34 @@ none-part test grid part fail =
           let here : s ≡ cell_in grid.nx j i = omega arith in
           ap test here ∙ fail i j (held-from part.columns i (omega arith) (omega arith)) (held-from part.rows j above below)))
 
--- a place outside the hull isn't reached
-hull-outside : (number_at : ℤ → ℕ) (block : Block) (reaches : Reaches) (offset : ℤ) (i : ℕ) → AreReaches number_at block reaches → IsOffset offset → is_held reaches.hull i ≡ false → is_reached (reach_for reaches offset) i ≡ false
-hull-outside number_at block reaches offset i are small outside =
-    false_from_ne_true (is_reached (reach_for reaches offset) i) (λ reached.
-      let held = are.hull offset small i reached in cc)
-
--- a test of which the first part fails
-and_false-left : (x y : Bool) → x ≡ false → (x && y) ≡ false
-and_false-left x y fails = rw fails refl
-
--- a test of which the second part fails
-and_false-right : (x y : Bool) → y ≡ false → (x && y) ≡ false
-and_false-right true y fails = fails
-and_false-right false y fails = refl
-
 -- where a part is in none of the columns that can be reached, none of its cells is needed
 pub far-columns : (pair : HaloPair) (part : Part) → IsSound pair → IsPart pair.decomp.now.grid part → ((i : ℕ) → is_held part.columns i ≡ true → is_held pair.columns.hull i ≡ false) → filter (is_halo pair.decomp.now pair.offsets.now pair.pet) (cells_of_part pair.decomp.now.grid part) ≡ []
 far-columns pair part sound within outside =
-    let P : ℤ × ℤ → Type 0 = λ offset. IsOffset offset.0 × IsOffset offset.1 in
     let width = within.columns in
     let height = within.rows in
     none-part (is_halo pair.decomp.now pair.offsets.now pair.pet) pair.decomp.now.grid part (λ i j across down.
-      let test : ℤ × ℤ → Bool = λ offset. is_reached (reach_for pair.columns offset.0) i && is_reached (reach_for pair.rows offset.1) j in
-      let Q : ℤ × ℤ → Type 0 = λ offset. test offset ≡ false in
       let column = held-to part.columns i across in
       let row = held-to part.rows j down in
-      let none : list_any test pair.offsets.now ≡ false = list_any_none test pair.offsets.now (All-weaker P Q
-        (λ offset small. and_false-left (is_reached (reach_for pair.columns offset.0) i) (is_reached (reach_for pair.rows offset.1) j)
-          (hull-outside (column_at pair.decomp.now.grid) pair.part.columns pair.columns offset.0 i sound.columns small.0 (outside i across)))
-        pair.offsets.now sound.offsets) in
-      halo-met pair i j sound (omega arith) (omega arith)
-      ∙ and_false-right (not (is_held pair.part.columns i && is_held pair.part.rows j)) (list_any test pair.offsets.now) none)
+      unneeded-column pair i j sound (omega arith) (omega arith) (outside i across))
 
 -- and where it is in none of the rows
 pub far-rows : (pair : HaloPair) (part : Part) → IsSound pair → IsPart pair.decomp.now.grid part → ((j : ℕ) → is_held part.rows j ≡ true → is_held pair.rows.hull j ≡ false) → filter (is_halo pair.decomp.now pair.offsets.now pair.pet) (cells_of_part pair.decomp.now.grid part) ≡ []
 far-rows pair part sound within outside =
-    let P : ℤ × ℤ → Type 0 = λ offset. IsOffset offset.0 × IsOffset offset.1 in
     let width = within.columns in
     let height = within.rows in
     none-part (is_halo pair.decomp.now pair.offsets.now pair.pet) pair.decomp.now.grid part (λ i j across down.
-      let test : ℤ × ℤ → Bool = λ offset. is_reached (reach_for pair.columns offset.0) i && is_reached (reach_for pair.rows offset.1) j in
-      let Q : ℤ × ℤ → Type 0 = λ offset. test offset ≡ false in
       let column = held-to part.columns i across in
       let row = held-to part.rows j down in
-      let none : list_any test pair.offsets.now ≡ false = list_any_none test pair.offsets.now (All-weaker P Q
-        (λ offset small. and_false-right (is_reached (reach_for pair.columns offset.0) i) (is_reached (reach_for pair.rows offset.1) j)
-          (hull-outside (row_at pair.decomp.now.grid) pair.part.rows pair.rows offset.1 j sound.rows small.1 (outside j down)))
-        pair.offsets.now sound.offsets) in
-      halo-met pair i j sound (omega arith) (omega arith)
-      ∙ and_false-right (not (is_held pair.part.columns i && is_held pair.part.rows j)) (list_any test pair.offsets.now) none)
+      unneeded-row pair i j sound (omega arith) (omega arith) (outside j down))
+
+-- and where it is what the PET owns
+pub far-own : (pair : HaloPair) (part : Part) → IsSound pair → IsPart pair.decomp.now.grid part → part ≡ pair.part → filter (is_halo pair.decomp.now pair.offsets.now pair.pet) (cells_of_part pair.decomp.now.grid part) ≡ []
+far-own pair part sound within same =
+    let width = within.columns in
+    let height = within.rows in
+    none-part (is_halo pair.decomp.now pair.offsets.now pair.pet) pair.decomp.now.grid part (λ i j across down.
+      let column = held-to part.columns i across in
+      let row = held-to part.rows j down in
+      let own : (is_held pair.part.columns i && is_held pair.part.rows j) ≡ true =
+        ap (λ (one : Part). is_held one.columns i && is_held one.rows j) (sym same) ∙ both_true across down in
+      unneeded-own pair i j sound (omega arith) (omega arith) own)

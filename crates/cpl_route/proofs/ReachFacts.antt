@@ -3,7 +3,7 @@ use Rattle.std.proofs.Common.{◌≡◌, ℕ, zero, suc, ◌+◌, ◌-◌, ◌*�
 use Rattle.std.specs.Prelude.{unsigned_abs}
 use Rattle.std.specs.Int.{int_rem_euclid}
 use Rattle.std.specs.List.{All, Any, list_any, range_with_len}
-use Rattle.std.proofs.lemmas.Bool.{cases_eq, cases_lt, eq-eqb, eqb-true, false_from_ne_true, or_cases, or_left, or_right}
+use Rattle.std.proofs.lemmas.Bool.{cases_eq, cases_lt, eq-eqb, eqb-true, false_from_ne_true, or_cases, or_left, or_right, true≢false}
 use Rattle.std.proofs.lemmas.Bool.Decides.{nat_tests}
 use Rattle.std.proofs.lemmas.Int.{clamps, int_rem_euclid_is, ints}
 use Rattle.std.proofs.lemmas.List.Folds.{Any-from_list_any, list_any_at}
@@ -16,7 +16,7 @@ use Rattle.cpl_grid.specs.Grid.{IsOffset, column_at, nearest_number, ring_number
 use Rattle.cpl_grid.specs.declared.blocks.Block.{Block}
 use Rattle.cpl_grid.specs.declared.grid.Grid.{Grid}
 use Rattle.cpl_route.specs.Places.{is_held}
-use Rattle.cpl_route.specs.Reach.{AreReaches, AreSteady, IsImage, IsReachIn, IsSteady, IsWithin, edge_place, is_reached, nowhere, reach_for, reaches_place, ring_place, steps_from_least}
+use Rattle.cpl_route.specs.Reach.{AreReaches, AreSteady, IsImage, IsReachIn, IsSteady, IsWithin, edge_place, is_reached, is_used_across, is_used_down, nowhere, reach_for, reaches_place, ring_place, steps_from_least}
 use Rattle.cpl_route.specs.declared.reach.Reach.{Reach}
 use Rattle.cpl_route.specs.declared.reach.Reaches.{Reaches}
 
@@ -185,28 +185,41 @@ each_offset P far_back back here ahead far_ahead (pos (suc zero)) within = ahead
 each_offset P far_back back here ahead far_ahead (pos (suc (suc zero))) within = far_ahead
 each_offset P far_back back here ahead far_ahead (pos (suc (suc (suc n)))) within = absurd (omega arith)
 
+-- a reach is that of an offset, where the offset is used
+abbrev pub IsReachAt : (ℤ → ℕ) → (ℤ → Bool) → Block → ℤ → Reach → Type 0
+IsReachAt number_at is_used block offset reach =
+    is_used offset ≡ true → (i : ℕ) → is_reached reach i ≡ reaches_place number_at block offset i
+
 -- the reaches at the five offsets
-pub reaches-each : (number_at : ℤ → ℕ) (block : Block) (reaches : Reaches) (far_back back here ahead far_ahead : Reach) → reaches.each ≡ far_back ∷ back ∷ here ∷ ahead ∷ far_ahead ∷ [] → All (IsReachIn (2 ^ 20)) reaches.each → reaches.hull.start + reaches.hull.length ≤ 2 ^ 20 → All (IsWithin reaches.hull) reaches.each
-  → ((i : ℕ) → is_reached far_back i ≡ reaches_place number_at block (negsuc 1) i)
-  → ((i : ℕ) → is_reached back i ≡ reaches_place number_at block (negsuc 0) i)
-  → ((i : ℕ) → is_reached here i ≡ reaches_place number_at block (pos 0) i)
-  → ((i : ℕ) → is_reached ahead i ≡ reaches_place number_at block (pos 1) i)
-  → ((i : ℕ) → is_reached far_ahead i ≡ reaches_place number_at block (pos 2) i)
-  → AreReaches number_at block reaches
-reaches-each number_at block reaches far_back back here ahead far_ahead five small hull_small hull is_far_back is_back is_here is_ahead is_far_ahead =
-    let P : ℤ → Type 0 = λ offset. (i : ℕ) → is_reached (reach_for reaches offset) i ≡ reaches_place number_at block offset i in
+pub reaches-each : (number_at : ℤ → ℕ) (is_used : ℤ → Bool) (block : Block) (reaches : Reaches) (far_back back here ahead far_ahead : Reach) → reaches.each ≡ far_back ∷ back ∷ here ∷ ahead ∷ far_ahead ∷ [] → All (IsReachIn (2 ^ 20)) reaches.each → reaches.hull.start + reaches.hull.length ≤ 2 ^ 20 → All (IsWithin reaches.hull) reaches.each → IsReachAt number_at is_used block (negsuc 1) far_back → IsReachAt number_at is_used block (negsuc 0) back → IsReachAt number_at is_used block (pos 0) here → IsReachAt number_at is_used block (pos 1) ahead → IsReachAt number_at is_used block (pos 2) far_ahead → AreReaches number_at is_used block reaches
+reaches-each number_at is_used block reaches far_back back here ahead far_ahead five small hull_small hull is_far_back is_back is_here is_ahead is_far_ahead =
+    let P : ℤ → Type 0 = λ offset. IsReachAt number_at is_used block offset (reach_for reaches offset) in
     let long = ap length five in
     record {
       small = small;
       places = each_offset P
-        (λ i. ap (λ each. is_reached (get_or each 0 nowhere) i) five ∙ is_far_back i)
-        (λ i. ap (λ each. is_reached (get_or each 1 nowhere) i) five ∙ is_back i)
-        (λ i. ap (λ each. is_reached (get_or each 2 nowhere) i) five ∙ is_here i)
-        (λ i. ap (λ each. is_reached (get_or each 3 nowhere) i) five ∙ is_ahead i)
-        (λ i. ap (λ each. is_reached (get_or each 4 nowhere) i) five ∙ is_far_ahead i);
+        (λ used i. ap (λ each. is_reached (get_or each 0 nowhere) i) five ∙ is_far_back used i)
+        (λ used i. ap (λ each. is_reached (get_or each 1 nowhere) i) five ∙ is_back used i)
+        (λ used i. ap (λ each. is_reached (get_or each 2 nowhere) i) five ∙ is_here used i)
+        (λ used i. ap (λ each. is_reached (get_or each 3 nowhere) i) five ∙ is_ahead used i)
+        (λ used i. ap (λ each. is_reached (get_or each 4 nowhere) i) five ∙ is_far_ahead used i);
       hull_small = hull_small;
       hull = λ offset within i reached. (hull (steps_from_least offset) nowhere (omega (arith, ints))).held i reached;
     }
+
+-- an offset along the columns that is used, by its steps
+pub used_across-steps : (offsets : List (ℤ × ℤ)) (dx : ℤ) (steps : ℕ) → steps ≡ steps_from_least dx → list_any (λ offset. eqb (steps_from_least offset.0) steps) offsets ≡ is_used_across offsets dx
+unfolding is_used_across
+used_across-steps offsets dx steps is = ap (λ k. list_any (λ offset. eqb (steps_from_least offset.0) k) offsets) is
+
+-- and along the rows
+pub used_down-steps : (offsets : List (ℤ × ℤ)) (dy : ℤ) (steps : ℕ) → steps ≡ steps_from_least dy → list_any (λ offset. eqb (steps_from_least offset.1) steps) offsets ≡ is_used_down offsets dy
+unfolding is_used_down
+used_down-steps offsets dy steps is = ap (λ k. list_any (λ offset. eqb (steps_from_least offset.1) k) offsets) is
+
+-- an offset that isn't used
+pub unused : {A : Type 0} (result any used : Bool) → result ≡ any → any ≡ used → result ≡ false → used ≡ true → A
+unused result any used is same none some = absurd (true≢false (sym some ∙ sym same ∙ sym is ∙ none))
 
 -- a block around one that has a reach has it too
 pub within-around : (block hull : Block) (reach : Reach) → IsWithin block reach → ((i : ℕ) → is_held block i ≡ true → is_held hull i ≡ true) → IsWithin hull reach

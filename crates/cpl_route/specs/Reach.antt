@@ -74,10 +74,18 @@ nowhere = record { first = record { start = 0; length = 0 }; wrapped = record { 
 abbrev pub reach_for : Reaches → ℤ → Reach
 reach_for reaches offset = slice_index_or reaches.each (steps_from_least offset) nowhere
 
--- for each offset the places that lie there from a block, and a block that has them all
-pub record AreReaches (number_at : ℤ → ℕ) (block : Block) (reaches : Reaches) : Type 0 where
+-- one of the offsets has this one along the columns
+unfoldable pub is_used_across : List (ℤ × ℤ) → ℤ → Bool
+is_used_across offsets dx = list_any (λ offset. steps_from_least offset.0 == steps_from_least dx) offsets
+
+-- one of the offsets has this one along the rows
+unfoldable pub is_used_down : List (ℤ × ℤ) → ℤ → Bool
+is_used_down offsets dy = list_any (λ offset. steps_from_least offset.1 == steps_from_least dy) offsets
+
+-- for each offset that is used the places that lie there from a block, and a block that has them all
+pub record AreReaches (number_at : ℤ → ℕ) (is_used : ℤ → Bool) (block : Block) (reaches : Reaches) : Type 0 where
   pub small : All (IsReachIn (2 ^ 20)) reaches.each
-  pub places : (offset : ℤ) → IsOffset offset → (i : ℕ) → is_reached (reach_for reaches offset) i ≡ reaches_place number_at block offset i
+  pub places : (offset : ℤ) → IsOffset offset → is_used offset ≡ true → (i : ℕ) → is_reached (reach_for reaches offset) i ≡ reaches_place number_at block offset i
   pub hull_small : reaches.hull.start + reaches.hull.length ≤ 2 ^ 20
   pub hull : (offset : ℤ) → IsOffset offset → (i : ℕ) → is_reached (reach_for reaches offset) i ≡ true → is_held reaches.hull i ≡ true
 
@@ -96,5 +104,5 @@ pub record IsSound (pair : HaloPair) : Type 0 where
   pub numbering : IsNumbering pair.decomp.now.grid
   pub part : IsPartOf pair.decomp.now pair.pet pair.part
   pub offsets : AreOffsets pair.offsets.now
-  pub columns : AreReaches (column_at pair.decomp.now.grid) pair.part.columns pair.columns
-  pub rows : AreReaches (row_at pair.decomp.now.grid) pair.part.rows pair.rows
+  pub columns : AreReaches (column_at pair.decomp.now.grid) (is_used_across pair.offsets.now) pair.part.columns pair.columns
+  pub rows : AreReaches (row_at pair.decomp.now.grid) (is_used_down pair.offsets.now) pair.part.rows pair.rows

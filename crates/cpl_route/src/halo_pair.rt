@@ -1,10 +1,9 @@
 //! What a PET needs for its halo: the neighbours of its cells that aren't its own, by rows and columns.
 
-ghost use Rattle.std.specs.Prelude.{◌≡◌, ◌+◌, ◌&&◌, not, [], filter, IsTrue};
+ghost use Rattle.std.specs.Prelude.{◌≡◌, ◌&&◌, [], filter, IsTrue};
 ghost use Rattle.cpl_grid.specs.Grid.{IsOffset};
 ghost use Rattle.cpl_grid.specs.Owners.{IsPet};
 ghost use Rattle.cpl_grid.specs.Parts.{IsPart, cells_of_part};
-ghost use Rattle.cpl_route.specs.Places.{is_held};
 ghost use Rattle.cpl_route.specs.Reach.{AreOffsets, IsSound, is_met, is_reached, reach_for};
 ghost use Rattle.cpl_route.specs.Routes.{is_halo};
 
@@ -47,8 +46,8 @@ impl<'a> HaloPair<'a> {
             offsets,
             pet,
             part,
-            columns: Reaches::of_columns(grid, part.columns),
-            rows: Reaches::of_rows(grid, part.rows),
+            columns: Reaches::of_columns(grid, part.columns, offsets),
+            rows: Reaches::of_rows(grid, part.rows, offsets),
         }
     }
 
@@ -58,16 +57,13 @@ impl<'a> HaloPair<'a> {
         requires part { IsPart self.now.decomp.now.grid part }
         ensures { IsTrue result → filter (is_halo self.now.decomp.now self.now.offsets.now self.now.pet) (cells_of_part self.now.decomp.now.grid part) ≡ [] }
     {
-        self.columns.misses(part.columns) || self.rows.misses(part.rows)
-    }
-
-    /// Whether the cell in a row and a column is needed: it isn't the PET's own, and a neighbour.
-    fn needs_cell(&self, row: u32, column: u32, is_own_column: bool) -> bool
-        requires { IsSound self.now }
-        ensures { result ≡ (not (is_own_column && is_held self.now.part.rows row) && is_met self.now.columns self.now.rows self.now.offsets.now row column) }
-    {
-        let is_own = is_own_column && holds(self.part.rows, row);
-        !is_own && self.meets(row, column)
+        if self.columns.misses(part.columns) {
+            return true;
+        }
+        if self.rows.misses(part.rows) {
+            return true;
+        }
+        part == self.part
     }
 
     /// Whether a neighbour of a cell of the PET lies in a row and a column.
@@ -106,15 +102,35 @@ impl Needs for HaloPair<'_> {
     ghost is_needed = { λ h s. is_halo h.decomp.now h.offsets.now h.pet s };
 
     fn stretch(&self, row: u32, column: u32, limit: u32) -> Stretch {
+        if !holds(self.rows.hull, row) {
+            return Stretch {
+                needed: false,
+                end: limit,
+            };
+        }
+        let near = block_stretch(self.columns.hull, column, limit);
+        if !near.needed {
+            return near;
+        }
         let own = block_stretch(self.part.columns, column, limit);
+        if own.needed && holds(self.part.rows, row) {
+            return Stretch {
+                needed: false,
+                end: own.end,
+            };
+        }
         let end = self.columns.stretch_end(column, own.end);
         Stretch {
-            needed: self.needs_cell(row, column, own.needed),
+            needed: self.meets(row, column),
             end,
         }
     }
 
     fn alike_to(&self, row: u32, limit: u32) -> u32 {
+        let near = block_stretch(self.rows.hull, row, limit);
+        if !near.needed {
+            return near.end;
+        }
         let own = block_stretch(self.part.rows, row, limit);
         self.rows.stretch_end(row, own.end)
     }

@@ -1,10 +1,10 @@
 //! Where the places lie that are at an offset from those of a block: one stretch of places, or two on a ring.
 
-ghost use Rattle.std.specs.Prelude.{◌≡◌, ℕ, ◌+◌, ◌≤◌, ◌<◌, ◌^◌, true, false, [], ◌∷◌, IsTrue};
-ghost use Rattle.std.specs.List.{All};
+ghost use Rattle.std.specs.Prelude.{◌≡◌, ℕ, ◌+◌, ◌≤◌, ◌<◌, ◌^◌, ◌==◌, true, false, [], ◌∷◌, IsTrue};
+ghost use Rattle.std.specs.List.{All, list_any};
 ghost use Rattle.cpl_grid.specs.Grid.{IsGrid, IsOffset, column_at, row_at};
 ghost use Rattle.cpl_route.specs.Places.{is_held};
-ghost use Rattle.cpl_route.specs.Reach.{AreReaches, AreSteady, IsImage, IsReachIn, IsSteady, IsWithin, edge_place, is_reached, reach_for, reaches_column, reaches_row, ring_place, steps_from_least};
+ghost use Rattle.cpl_route.specs.Reach.{AreOffsets, AreReaches, AreSteady, IsImage, IsReachIn, IsSteady, IsWithin, edge_place, is_reached, is_used_across, is_used_down, nowhere, reach_for, reaches_column, reaches_row, ring_place, steps_from_least};
 
 use crate::needs::block_stretch;
 use cpl_grid::{Block, Grid};
@@ -18,7 +18,7 @@ pub(crate) struct Reach {
     pub wrapped: Block,
 }
 
-/// The places that lie at each offset from -2 to 2 from those of a block.
+/// The places that lie at offsets from -2 to 2 from those of a block: at each offset that a halo has.
 #[derive(Clone, Copy)]
 pub(crate) struct Reaches {
     /// By the offset, from -2 on.
@@ -27,32 +27,42 @@ pub(crate) struct Reaches {
     pub hull: Block,
 }
 
-/// The columns that lie at an offset from those of a block.
-pub(crate) fn columns_reached(grid: Grid, block: Block, dx: i8) -> Reach
+/// The columns that lie at an offset from those of a block, if one of the offsets is `dx` along the
+/// columns; else none.
+pub(crate) fn columns_reached(grid: Grid, block: Block, offsets: &[(i8, i8)], dx: i8) -> Reach
     requires grid { IsGrid grid }
     requires offset { IsOffset dx }
+    requires offsets { AreOffsets offsets.now }
     requires within { block.start + block.length ≤ grid.nx }
-    ensures columns { (i : ℕ) → is_reached result i ≡ reaches_column grid block dx i }
+    ensures columns { is_used_across offsets.now dx ≡ true → (i : ℕ) → is_reached result i ≡ reaches_column grid block dx i }
     ensures within { IsReachIn grid.nx result }
 {
     let steps = steps_of(dx);
-    if grid.periodic {
+    if !is_used_across(offsets, steps) {
+        nowhere()
+    } else if grid.periodic {
         ring_reach(grid.nx, block, steps)
     } else {
         edge_reach(grid.nx, block, steps)
     }
 }
 
-/// The rows that lie at an offset from those of a block.
-pub(crate) fn rows_reached(grid: Grid, block: Block, dy: i8) -> Reach
+/// The rows that lie at an offset from those of a block, if one of the offsets is `dy` along the rows;
+/// else none.
+pub(crate) fn rows_reached(grid: Grid, block: Block, offsets: &[(i8, i8)], dy: i8) -> Reach
     requires grid { IsGrid grid }
     requires offset { IsOffset dy }
+    requires offsets { AreOffsets offsets.now }
     requires within { block.start + block.length ≤ grid.ny }
-    ensures rows { (j : ℕ) → is_reached result j ≡ reaches_row grid block dy j }
+    ensures rows { is_used_down offsets.now dy ≡ true → (j : ℕ) → is_reached result j ≡ reaches_row grid block dy j }
     ensures within { IsReachIn grid.ny result }
 {
     let steps = steps_of(dy);
-    edge_reach(grid.ny, block, steps)
+    if is_used_down(offsets, steps) {
+        edge_reach(grid.ny, block, steps)
+    } else {
+        nowhere()
+    }
 }
 
 impl Reach {
@@ -77,31 +87,33 @@ impl Reach {
 }
 
 impl Reaches {
-    /// The columns that lie at each offset from those of a block.
-    pub fn of_columns(grid: Grid, block: Block) -> Reaches
+    /// The columns that lie at each of the offsets from those of a block.
+    pub fn of_columns(grid: Grid, block: Block, offsets: &[(i8, i8)]) -> Reaches
         requires grid { IsGrid grid }
+        requires offsets { AreOffsets offsets.now }
         requires within { block.start + block.length ≤ grid.nx }
-        ensures { AreReaches (column_at grid) block result }
+        ensures { AreReaches (column_at grid) (is_used_across offsets.now) block result }
     {
-        let far_back = columns_reached(grid, block, -2);
-        let back = columns_reached(grid, block, -1);
-        let here = columns_reached(grid, block, 0);
-        let ahead = columns_reached(grid, block, 1);
-        let far_ahead = columns_reached(grid, block, 2);
+        let far_back = columns_reached(grid, block, offsets, -2);
+        let back = columns_reached(grid, block, offsets, -1);
+        let here = columns_reached(grid, block, offsets, 0);
+        let ahead = columns_reached(grid, block, offsets, 1);
+        let far_ahead = columns_reached(grid, block, offsets, 2);
         together(far_back, back, here, ahead, far_ahead)
     }
 
-    /// The rows that lie at each offset from those of a block.
-    pub fn of_rows(grid: Grid, block: Block) -> Reaches
+    /// The rows that lie at each of the offsets from those of a block.
+    pub fn of_rows(grid: Grid, block: Block, offsets: &[(i8, i8)]) -> Reaches
         requires grid { IsGrid grid }
+        requires offsets { AreOffsets offsets.now }
         requires within { block.start + block.length ≤ grid.ny }
-        ensures { AreReaches (row_at grid) block result }
+        ensures { AreReaches (row_at grid) (is_used_down offsets.now) block result }
     {
-        let far_back = rows_reached(grid, block, -2);
-        let back = rows_reached(grid, block, -1);
-        let here = rows_reached(grid, block, 0);
-        let ahead = rows_reached(grid, block, 1);
-        let far_ahead = rows_reached(grid, block, 2);
+        let far_back = rows_reached(grid, block, offsets, -2);
+        let back = rows_reached(grid, block, offsets, -1);
+        let here = rows_reached(grid, block, offsets, 0);
+        let ahead = rows_reached(grid, block, offsets, 1);
+        let far_ahead = rows_reached(grid, block, offsets, 2);
         together(far_back, back, here, ahead, far_ahead)
     }
 
@@ -148,6 +160,46 @@ fn steps_of(offset: i8) -> u32
     ensures within { result ≤ 4 }
 {
     (offset + 2) as u32
+}
+
+/// Whether one of the offsets is so many steps from -2 along the columns.
+fn is_used_across(offsets: &[(i8, i8)], steps: u32) -> bool
+    requires { AreOffsets offsets.now }
+    ensures { result ≡ list_any (λ offset. steps_from_least offset.0 == steps) offsets.now }
+{
+    for offset in offsets {
+        if steps_of(offset.0) == steps {
+            return true;
+        }
+    }
+    false
+}
+
+/// Whether one of the offsets is so many steps from -2 along the rows.
+fn is_used_down(offsets: &[(i8, i8)], steps: u32) -> bool
+    requires { AreOffsets offsets.now }
+    ensures { result ≡ list_any (λ offset. steps_from_least offset.1 == steps) offsets.now }
+{
+    for offset in offsets {
+        if steps_of(offset.1) == steps {
+            return true;
+        }
+    }
+    false
+}
+
+/// The reach that has no place.
+fn nowhere() -> Reach
+    ensures { result ≡ nowhere }
+{
+    let none = Block {
+        start: 0,
+        length: 0,
+    };
+    Reach {
+        first: none,
+        wrapped: none,
+    }
 }
 
 /// The places at the five offsets, with a block that has them all.
@@ -239,15 +291,8 @@ fn edge_reach(n: u32, block: Block, steps: u32) -> Reach
     ensures image { IsImage (edge_place n steps) block result }
     ensures within { IsReachIn n result }
 {
-    let none = Block {
-        start: 0,
-        length: 0,
-    };
     if block.length == 0 {
-        return Reach {
-            first: none,
-            wrapped: none,
-        };
+        return nowhere();
     }
     let start = edge_place(n, steps, block.start);
     let last = edge_place(n, steps, block.start + block.length - 1);
@@ -256,7 +301,10 @@ fn edge_reach(n: u32, block: Block, steps: u32) -> Reach
             start,
             length: last + 1 - start,
         },
-        wrapped: none,
+        wrapped: Block {
+            start: 0,
+            length: 0,
+        },
     }
 }
 
