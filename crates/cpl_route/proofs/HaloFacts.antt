@@ -2,7 +2,7 @@
 use Rattle.std.proofs.Common.{◌≡◌, ℕ, zero, suc, ◌+◌, ◌-◌, ◌*◌, ◌<◌, ◌≤◌, eqb, Bool, true, false, not, ◌&&◌, ℤ, pos, ◌+ℤ◌, List, [], ◌∷◌, ◌++◌, length, get_or, filter, Some, refl, sym, ap, subst, ◌∙◌, inl, inr, arith}
 use Rattle.std.specs.Prelude.{slice_get}
 use Rattle.std.specs.List.{All, Any, flat_map, list_any, range_with_len}
-use Rattle.std.proofs.lemmas.Bool.{and_parts, eq-eqb, eqb-true, false_from_ne_true}
+use Rattle.std.proofs.lemmas.Bool.{and_parts, eq-eqb, eqb-true, false_from_ne_true, true≢false}
 use Rattle.std.proofs.lemmas.List.Elements.{All-filter, All-weaker, filter_passes}
 use Rattle.std.proofs.lemmas.List.Folds.{Any-from_list_any, list_any_at, list_any_none}
 use Rattle.std.proofs.lemmas.Option.{get_or_from_slice_get, slice_get_within}
@@ -199,6 +199,11 @@ hull-outside number_at is_used block reaches offset i are small outside =
     false_from_ne_true (is_reached (reach_for reaches offset) i) (λ reached.
       let held = are.hull offset small i reached in cc)
 
+-- a test that its opposite passes
+pub opposite-true : (x : Bool) → not x ≡ true → x ≡ false
+opposite-true true passes = absurd (true≢false (sym passes))
+opposite-true false passes = refl
+
 -- a test of which the first part fails
 pub and_false-left : (x y : Bool) → x ≡ false → (x && y) ≡ false
 and_false-left x y fails = rw fails refl
@@ -342,6 +347,20 @@ far-rows pair part sound within outside =
       let column = held-to part.columns i across in
       let row = held-to part.rows j down in
       unneeded-row pair i j sound (omega arith) (omega arith) (outside j down))
+
+-- parts of equal numbers are one
+pub part-same : (one other : Part) (result : Bool) → result ≡ ((eqb one.columns.start other.columns.start && eqb one.columns.length other.columns.length) && (eqb one.rows.start other.rows.start && eqb one.rows.length other.rows.length)) → result ≡ true → one ≡ other
+part-same one other result is same =
+    let across = eqb one.columns.start other.columns.start && eqb one.columns.length other.columns.length in
+    let down = eqb one.rows.start other.rows.start && eqb one.rows.length other.rows.length in
+    let both = and_parts across down (sym is ∙ same) in
+    let columns = and_parts (eqb one.columns.start other.columns.start) (eqb one.columns.length other.columns.length) both.0 in
+    let rows = and_parts (eqb one.rows.start other.rows.start) (eqb one.rows.length other.rows.length) both.1 in
+    let x = eqb-true one.columns.start other.columns.start columns.0 in
+    let w = eqb-true one.columns.length other.columns.length columns.1 in
+    let y = eqb-true one.rows.start other.rows.start rows.0 in
+    let h = eqb-true one.rows.length other.rows.length rows.1 in
+    λ i. record { columns = record { start = x i; length = w i }; rows = record { start = y i; length = h i } }
 
 -- and where it is what the PET owns
 pub far-own : (pair : HaloPair) (part : Part) → IsSound pair → IsPart pair.decomp.now.grid part → part ≡ pair.part → filter (is_halo pair.decomp.now pair.offsets.now pair.pet) (cells_of_part pair.decomp.now.grid part) ≡ []

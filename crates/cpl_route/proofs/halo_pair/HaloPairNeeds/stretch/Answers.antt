@@ -1,6 +1,6 @@
 use Rattle.std.proofs.Common.{◌≡◌, false, ◌&&◌, sym, ◌∙◌}
 use Rattle.cpl_route.specs.Places.{is_held}
-use Rattle.cpl_route.proofs.HaloFacts.{and_false-left, and_false-right, column-stretch, halo-stretch, own-stretch, row-stretch}
+use Rattle.cpl_route.proofs.HaloFacts.{and_false-left, and_false-right, column-stretch, halo-stretch, opposite-true, own-stretch, row-stretch}
 use Rattle.cpl_route.proofs.halo_pair.HaloPairNeeds.stretch.Goals as goal
 use Rattle.cpl_route.proofs.halo_pair.HaloPairNeeds.stretch.Goals.{else-own-via-then-own+else-holds, else-own-via-else-own}
 
@@ -12,7 +12,7 @@ returns-then-not-holds c =
 pub returns-then-not-near : goal.returns-then-not-near
 returns-then-not-near c =
     column-stretch c.args.self.now c.args.row c.args.column c.args.limit c.block_stretch-near.result c.requires.sound c.requires.row c.requires.limit
-      c.block_stretch-near.ensures.some c.block_stretch-near.ensures.within c.block_stretch-near.ensures.same c.if-not-near.true
+      c.block_stretch-near.ensures.some c.block_stretch-near.ensures.within c.block_stretch-near.ensures.same (opposite-true c.block_stretch-near.result.needed c.if-not-near.true)
 
 pub returns-then-holds : goal.returns-then-holds
 returns-then-holds c =
