@@ -1,5 +1,5 @@
 -- What a PET needs for its halo, by rows and columns.
-use Rattle.std.proofs.Common.{◌≡◌, ℕ, zero, suc, ◌+◌, ◌-◌, ◌*◌, ◌<◌, ◌≤◌, eqb, Bool, true, false, not, ◌&&◌, ℤ, pos, ◌+ℤ◌, List, [], ◌∷◌, ◌++◌, length, get_or, filter, Some, refl, sym, ap, subst, ◌∙◌, inl, inr, arith}
+use Rattle.std.proofs.Common.{◌≡◌, ℕ, zero, suc, ◌+◌, ◌-◌, ◌*◌, ◌<◌, ◌≤◌, eqb, Bool, true, false, not, ◌&&◌, ℤ, pos, ◌+ℤ◌, List, [], length, get_or, filter, Some, refl, sym, ap, subst, ◌∙◌, arith}
 use Rattle.std.specs.Prelude.{slice_get}
 use Rattle.std.specs.List.{All, Any, flat_map, list_any, range_with_len}
 use Rattle.std.proofs.lemmas.Bool.{and_parts, eq-eqb, eqb-true, false_from_ne_true, true≢false}
@@ -54,21 +54,21 @@ own-held layout pet part i j s is at =
     let column_is = at.column_is in
     let row_is = at.row_is in
     same_test (eqb (owner_of layout s) pet) (is_held part.columns i && is_held part.rows j)
-      (λ own.
-          let inside = (is.owned s at.cell).0 (eqb-true (owner_of layout s) pet own) in
-          let left = inside.column.from_start in
-          let right = inside.column.before_end in
-          let above = inside.row.from_start in
-          let below = inside.row.before_end in
-          both_true (held-from part.columns i (omega arith) (omega arith)) (held-from part.rows j (omega arith) (omega arith)))
-      (λ held.
-          let both = and_parts (is_held part.columns i) (is_held part.rows j) held in
-          let across = held-to part.columns i both.0 in
-          let down = held-to part.rows j both.1 in
-          eq-eqb (owner_of layout s) pet ((is.owned s at.cell).1 (record {
-            column = record { from_start = omega arith; before_end = omega arith };
-            row = record { from_start = omega arith; before_end = omega arith };
-          })))
+    (λ own.
+    let inside = (is.owned s at.cell).0 (eqb-true (owner_of layout s) pet own) in
+    let left = inside.column.from_start in
+    let right = inside.column.before_end in
+    let above = inside.row.from_start in
+    let below = inside.row.before_end in
+    both_true (held-from part.columns i (omega arith) (omega arith)) (held-from part.rows j (omega arith) (omega arith)))
+    (λ held.
+    let both = and_parts (is_held part.columns i) (is_held part.rows j) held in
+    let across = held-to part.columns i both.0 in
+    let down = held-to part.rows j both.1 in
+    eq-eqb (owner_of layout s) pet ((is.owned s at.cell).1 (record {
+      column = record { from_start = omega arith; before_end = omega arith };
+      row = record { from_start = omega arith; before_end = omega arith };
+    })))
 
 -- a PET owns what its list has, which are cells
 cells_of-own : (layout : Layout) (pet k t : ℕ) → k < length (cells_of layout pet) → get_or (cells_of layout pet) k t ≡ t → (owner_of layout t ≡ pet) × IsCell layout.grid t
@@ -167,7 +167,7 @@ met-to layout offsets pet part columns rows i j s numbering is within across dow
     let is_near : ℤ × ℤ → Bool = λ one. eqb (neighbour_of grid t one.0 one.1) s in
     let found : near t ≡ true = list_any_at is_near offsets way.0 offset way.2 (ap is_near way.3 ∙ eq-eqb (neighbour_of grid t offset.0 offset.1) s same) in
     list_any_at near (cells_of layout pet) k t (slice_get_within (cells_of layout pet) k t there)
-      (ap near (get_or_from_slice_get (cells_of layout pet) k t t there) ∙ found)
+    (ap near (get_or_from_slice_get (cells_of layout pet) k t t there) ∙ found)
 
 -- what a PET needs of a grid, by the row and the column from 0
 pub halo-met : (pair : HaloPair) (i j : ℕ) → IsSound pair → i < pair.decomp.now.grid.nx → j < pair.decomp.now.grid.ny → is_halo pair.decomp.now pair.offsets.now pair.pet (cell_in pair.decomp.now.grid.nx j i) ≡ (not (is_held pair.part.columns i && is_held pair.part.rows j) && is_met pair.columns pair.rows pair.offsets.now j i)
@@ -177,9 +177,9 @@ halo-met pair i j sound right below =
     let s = cell_in layout.grid.nx j i in
     let at = cell_at layout.grid i j sound.numbering right below in
     let near : is_neighbour layout offsets pair.pet s ≡ is_met pair.columns pair.rows offsets j i =
-      same_test (is_neighbour layout offsets pair.pet s) (is_met pair.columns pair.rows offsets j i)
-        (met-from layout offsets pair.pet pair.part pair.columns pair.rows i j s sound.numbering sound.part sound.offsets sound.columns sound.rows at)
-        (met-to layout offsets pair.pet pair.part pair.columns pair.rows i j s sound.numbering sound.part sound.offsets sound.columns sound.rows at) in
+    same_test (is_neighbour layout offsets pair.pet s) (is_met pair.columns pair.rows offsets j i)
+    (met-from layout offsets pair.pet pair.part pair.columns pair.rows i j s sound.numbering sound.part sound.offsets sound.columns sound.rows at)
+    (met-to layout offsets pair.pet pair.part pair.columns pair.rows i j s sound.numbering sound.part sound.offsets sound.columns sound.rows at) in
     ap (λ own. not own && is_neighbour layout offsets pair.pet s) (own-held layout pair.pet pair.part i j s sound.part at)
     ∙ ap (λ met. not (is_held pair.part.columns i && is_held pair.part.rows j) && met) near
 
@@ -197,7 +197,7 @@ met-rows columns rows offsets j row column same =
 hull-outside : (number_at : ℤ → ℕ) (is_used : ℤ → Bool) (block : Block) (reaches : Reaches) (offset : ℤ) (i : ℕ) → AreReaches number_at is_used block reaches → IsOffset offset → is_held reaches.hull i ≡ false → is_reached (reach_for reaches offset) i ≡ false
 hull-outside number_at is_used block reaches offset i are small outside =
     false_from_ne_true (is_reached (reach_for reaches offset) i) (λ reached.
-      let held = are.hull offset small i reached in cc)
+    let held = are.hull offset small i reached in cc)
 
 -- a test that its opposite passes
 pub opposite-true : (x : Bool) → not x ≡ true → x ≡ false
@@ -220,9 +220,9 @@ unneeded-column pair i j sound right below outside =
     let test : ℤ × ℤ → Bool = λ offset. is_reached (reach_for pair.columns offset.0) i && is_reached (reach_for pair.rows offset.1) j in
     let Q : ℤ × ℤ → Type 0 = λ offset. test offset ≡ false in
     let none : list_any test pair.offsets.now ≡ false = list_any_none test pair.offsets.now (All-weaker P Q
-      (λ offset small. and_false-left (is_reached (reach_for pair.columns offset.0) i) (is_reached (reach_for pair.rows offset.1) j)
-        (hull-outside (column_at pair.decomp.now.grid) (is_used_across pair.offsets.now) pair.part.columns pair.columns offset.0 i sound.columns small.0 outside))
-      pair.offsets.now sound.offsets) in
+    (λ offset small. and_false-left (is_reached (reach_for pair.columns offset.0) i) (is_reached (reach_for pair.rows offset.1) j)
+    (hull-outside (column_at pair.decomp.now.grid) (is_used_across pair.offsets.now) pair.part.columns pair.columns offset.0 i sound.columns small.0 outside))
+    pair.offsets.now sound.offsets) in
     halo-met pair i j sound right below
     ∙ and_false-right (not (is_held pair.part.columns i && is_held pair.part.rows j)) (list_any test pair.offsets.now) none
 
@@ -233,9 +233,9 @@ unneeded-row pair i j sound right below outside =
     let test : ℤ × ℤ → Bool = λ offset. is_reached (reach_for pair.columns offset.0) i && is_reached (reach_for pair.rows offset.1) j in
     let Q : ℤ × ℤ → Type 0 = λ offset. test offset ≡ false in
     let none : list_any test pair.offsets.now ≡ false = list_any_none test pair.offsets.now (All-weaker P Q
-      (λ offset small. and_false-right (is_reached (reach_for pair.columns offset.0) i) (is_reached (reach_for pair.rows offset.1) j)
-        (hull-outside (row_at pair.decomp.now.grid) (is_used_down pair.offsets.now) pair.part.rows pair.rows offset.1 j sound.rows small.1 outside))
-      pair.offsets.now sound.offsets) in
+    (λ offset small. and_false-right (is_reached (reach_for pair.columns offset.0) i) (is_reached (reach_for pair.rows offset.1) j)
+    (hull-outside (row_at pair.decomp.now.grid) (is_used_down pair.offsets.now) pair.part.rows pair.rows offset.1 j sound.rows small.1 outside))
+    pair.offsets.now sound.offsets) in
     halo-met pair i j sound right below
     ∙ and_false-right (not (is_held pair.part.columns i && is_held pair.part.rows j)) (list_any test pair.offsets.now) none
 
@@ -265,7 +265,7 @@ column-stretch pair row column limit near sound below most some within held outs
 pub own-stretch : (pair : HaloPair) (row column limit own_end : ℕ) (own : Bool) → IsSound pair → row < pair.decomp.now.grid.ny → limit ≤ pair.decomp.now.grid.nx → column < own_end → own_end ≤ limit → ((i : ℕ) → column ≤ i → i < own_end → is_held pair.part.columns i ≡ own) → own ≡ true → is_held pair.part.rows row ≡ true → IsStretch (is_halo pair.decomp.now pair.offsets.now pair.pet) pair.decomp.now.grid.nx row column limit (record { needed = false; end = own_end })
 own-stretch pair row column limit own_end own sound below most some within held is_own in_rows =
     unneeded-stretch pair row column limit own_end some within (λ i from to.
-      unneeded-own pair i row sound (omega arith) below (both_true (held i from to ∙ is_own) in_rows))
+    unneeded-own pair i row sound (omega arith) below (both_true (held i from to ∙ is_own) in_rows))
 
 -- rows outside the hull are alike
 pub row-alike : (pair : HaloPair) (row limit end : ℕ) (near : Bool) → IsSound pair → limit ≤ pair.decomp.now.grid.ny → row < end → end ≤ limit → ((j : ℕ) → row ≤ j → j < end → is_held pair.rows.hull j ≡ near) → near ≡ false → AreAlike (is_halo pair.decomp.now pair.offsets.now pair.pet) pair.decomp.now.grid.nx row limit end
@@ -323,10 +323,10 @@ none-part test grid part fail =
     let x = part.columns.start in
     needed-part test grid part
     ∙ flat_map-none (needed_in_row test grid.nx part.columns) part.rows.start part.rows.length (λ j above below.
-        filter-range_none test (cell_in grid.nx j x) part.columns.length (λ s from to.
-          let i = s - (1 + j * grid.nx) in
-          let here : s ≡ cell_in grid.nx j i = omega arith in
-          ap test here ∙ fail i j (held-from part.columns i (omega arith) (omega arith)) (held-from part.rows j above below)))
+    filter-range_none test (cell_in grid.nx j x) part.columns.length (λ s from to.
+    let i = s - (1 + j * grid.nx) in
+    let here : s ≡ cell_in grid.nx j i = omega arith in
+    ap test here ∙ fail i j (held-from part.columns i (omega arith) (omega arith)) (held-from part.rows j above below)))
 
 -- where a part is in none of the columns that can be reached, none of its cells is needed
 pub far-columns : (pair : HaloPair) (part : Part) → IsSound pair → IsPart pair.decomp.now.grid part → ((i : ℕ) → is_held part.columns i ≡ true → is_held pair.columns.hull i ≡ false) → filter (is_halo pair.decomp.now pair.offsets.now pair.pet) (cells_of_part pair.decomp.now.grid part) ≡ []
@@ -334,9 +334,9 @@ far-columns pair part sound within outside =
     let width = within.columns in
     let height = within.rows in
     none-part (is_halo pair.decomp.now pair.offsets.now pair.pet) pair.decomp.now.grid part (λ i j across down.
-      let column = held-to part.columns i across in
-      let row = held-to part.rows j down in
-      unneeded-column pair i j sound (omega arith) (omega arith) (outside i across))
+    let column = held-to part.columns i across in
+    let row = held-to part.rows j down in
+    unneeded-column pair i j sound (omega arith) (omega arith) (outside i across))
 
 -- and where it is in none of the rows
 pub far-rows : (pair : HaloPair) (part : Part) → IsSound pair → IsPart pair.decomp.now.grid part → ((j : ℕ) → is_held part.rows j ≡ true → is_held pair.rows.hull j ≡ false) → filter (is_halo pair.decomp.now pair.offsets.now pair.pet) (cells_of_part pair.decomp.now.grid part) ≡ []
@@ -344,9 +344,9 @@ far-rows pair part sound within outside =
     let width = within.columns in
     let height = within.rows in
     none-part (is_halo pair.decomp.now pair.offsets.now pair.pet) pair.decomp.now.grid part (λ i j across down.
-      let column = held-to part.columns i across in
-      let row = held-to part.rows j down in
-      unneeded-row pair i j sound (omega arith) (omega arith) (outside j down))
+    let column = held-to part.columns i across in
+    let row = held-to part.rows j down in
+    unneeded-row pair i j sound (omega arith) (omega arith) (outside j down))
 
 -- parts of equal numbers are one
 pub part-same : (one other : Part) (result : Bool) → result ≡ ((eqb one.columns.start other.columns.start && eqb one.columns.length other.columns.length) && (eqb one.rows.start other.rows.start && eqb one.rows.length other.rows.length)) → result ≡ true → one ≡ other
@@ -368,8 +368,8 @@ far-own pair part sound within same =
     let width = within.columns in
     let height = within.rows in
     none-part (is_halo pair.decomp.now pair.offsets.now pair.pet) pair.decomp.now.grid part (λ i j across down.
-      let column = held-to part.columns i across in
-      let row = held-to part.rows j down in
-      let own : (is_held pair.part.columns i && is_held pair.part.rows j) ≡ true =
-        ap (λ (one : Part). is_held one.columns i && is_held one.rows j) (sym same) ∙ both_true across down in
-      unneeded-own pair i j sound (omega arith) (omega arith) own)
+    let column = held-to part.columns i across in
+    let row = held-to part.rows j down in
+    let own : (is_held pair.part.columns i && is_held pair.part.rows j) ≡ true =
+    ap (λ (one : Part). is_held one.columns i && is_held one.rows j) (sym same) ∙ both_true across down in
+    unneeded-own pair i j sound (omega arith) (omega arith) own)

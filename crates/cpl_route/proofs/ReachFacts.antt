@@ -1,7 +1,5 @@
 -- The places that lie at an offset from those of a block.
-use Rattle.std.proofs.Common.{◌≡◌, ℕ, zero, suc, ◌+◌, ◌-◌, ◌*◌, ◌%◌, ◌<◌, ◌≤◌, ◌^◌, min, eqb, Bool, true, false, ◌||◌, ℤ, pos, negsuc, ◌+ℤ◌, ◌-ℤ◌, List, [], ◌∷◌, length, get_or, take, refl, sym, ap, subst, ◌∙◌, inl, inr, arith}
-use Rattle.std.specs.Prelude.{unsigned_abs}
-use Rattle.std.specs.Int.{int_rem_euclid}
+use Rattle.std.proofs.Common.{◌≡◌, ℕ, zero, suc, ◌+◌, ◌-◌, ◌*◌, ◌%◌, ◌<◌, ◌≤◌, ◌^◌, min, eqb, Bool, true, false, ℤ, pos, negsuc, ◌+ℤ◌, ◌-ℤ◌, List, [], ◌∷◌, length, get_or, take, refl, sym, ap, ◌∙◌, inl, inr, arith}
 use Rattle.std.specs.List.{All, Any, list_any, range_with_len}
 use Rattle.std.proofs.lemmas.Bool.{cases_eq, cases_lt, eq-eqb, eqb-true, false_from_ne_true, or_cases, or_left, or_right, true≢false}
 use Rattle.std.proofs.lemmas.Bool.Decides.{nat_tests}
@@ -44,7 +42,7 @@ reaches-from number_at block offset place a from to is =
     let within : a - block.start < length (range_with_len block.start block.length) = rw length-range_with_len inside in
     let at : get_or (range_with_len block.start block.length) (a - block.start) 0 ≡ a = get_or-range_with_len block.start block.length (a - block.start) 0 inside ∙ omega arith in
     list_any_at test (range_with_len block.start block.length) (a - block.start) 0 within
-      (ap test at ∙ eq-eqb (number_at (pos (a + 1) +ℤ offset)) (place + 1) is)
+    (ap test at ∙ eq-eqb (number_at (pos (a + 1) +ℤ offset)) (place + 1) is)
 
 -- the place of a block that it comes from
 pub reaches-to : (number_at : ℤ → ℕ) (block : Block) (offset : ℤ) (place : ℕ) → reaches_place number_at block offset place ≡ true → (a : ℕ) × (block.start ≤ a) × (a < block.start + block.length) × (number_at (pos (a + 1) +ℤ offset) ≡ place + 1)
@@ -60,13 +58,13 @@ reaches-to number_at block offset place reaches =
 pub image-reaches : (number_at : ℤ → ℕ) (place_at : ℕ → ℕ) (block : Block) (offset : ℤ) (reach : Reach) → ((a : ℕ) → number_at (pos (a + 1) +ℤ offset) ≡ place_at a + 1) → IsImage place_at block reach → (i : ℕ) → is_reached reach i ≡ reaches_place number_at block offset i
 image-reaches number_at place_at block offset reach each image i =
     same_test (is_reached reach i) (reaches_place number_at block offset i)
-      (λ reached.
-          let from = image.only i reached in
-          reaches-from number_at block offset i from.0 from.1 from.2 (each from.0 ∙ ap (λ k. k + 1) from.3))
-      (λ reaches.
-          let from = reaches-to number_at block offset i reaches in
-          let same : place_at from.0 ≡ i = omega (arith, each from.0, from.3) in
-          ap (is_reached reach) (sym same) ∙ image.has from.0 from.1 from.2)
+    (λ reached.
+    let from = image.only i reached in
+    reaches-from number_at block offset i from.0 from.1 from.2 (each from.0 ∙ ap (λ k. k + 1) from.3))
+    (λ reaches.
+    let from = reaches-to number_at block offset i reaches in
+    let same : place_at from.0 ≡ i = omega (arith, each from.0, from.3) in
+    ap (is_reached reach) (sym same) ∙ image.has from.0 from.1 from.2)
 
 -- the nearest of the numbers from 1 on, by places from 0
 pub nearest_number-place : (n a : ℕ) (offset : ℤ) → 1 ≤ n → IsOffset offset → nearest_number n (pos (a + 1) +ℤ offset) ≡ edge_place n (steps_from_least offset) a + 1
@@ -198,11 +196,11 @@ reaches-each number_at is_used block reaches far_back back here ahead far_ahead 
     record {
       small = small;
       places = each_offset P
-        (λ used i. ap (λ each. is_reached (get_or each 0 nowhere) i) five ∙ is_far_back used i)
-        (λ used i. ap (λ each. is_reached (get_or each 1 nowhere) i) five ∙ is_back used i)
-        (λ used i. ap (λ each. is_reached (get_or each 2 nowhere) i) five ∙ is_here used i)
-        (λ used i. ap (λ each. is_reached (get_or each 3 nowhere) i) five ∙ is_ahead used i)
-        (λ used i. ap (λ each. is_reached (get_or each 4 nowhere) i) five ∙ is_far_ahead used i);
+          (λ used i. ap (λ each. is_reached (get_or each 0 nowhere) i) five ∙ is_far_back used i)
+          (λ used i. ap (λ each. is_reached (get_or each 1 nowhere) i) five ∙ is_back used i)
+          (λ used i. ap (λ each. is_reached (get_or each 2 nowhere) i) five ∙ is_here used i)
+          (λ used i. ap (λ each. is_reached (get_or each 3 nowhere) i) five ∙ is_ahead used i)
+          (λ used i. ap (λ each. is_reached (get_or each 4 nowhere) i) five ∙ is_far_ahead used i);
       hull_small = hull_small;
       hull = λ offset within i reached. (hull (steps_from_least offset) nowhere (omega (arith, ints))).held i reached;
     }
@@ -229,7 +227,7 @@ within-around block hull reach is around = record { held = λ i reached. around 
 pub All-five : (P : Reach → Type 0) (a b c d e : Reach) → P a → P b → P c → P d → P e → All P (a ∷ b ∷ c ∷ d ∷ e ∷ [])
 All-five P a b c d e is_a is_b is_c is_d is_e =
     All-cons P a (b ∷ c ∷ d ∷ e ∷ []) is_a
-      (All-cons P b (c ∷ d ∷ e ∷ []) is_b (All-cons P c (d ∷ e ∷ []) is_c (All-cons P d (e ∷ []) is_d (All-cons P e [] is_e (All-nil P)))))
+    (All-cons P b (c ∷ d ∷ e ∷ []) is_b (All-cons P c (d ∷ e ∷ []) is_c (All-cons P d (e ∷ []) is_d (All-cons P e [] is_e (All-nil P)))))
 
 -- one reach more is steady, up to an end that isn't further
 pub steady-more : (reaches : List Reach) (k place limit end next : ℕ) (d : Reach) → AreSteady (take k reaches) place limit end → k < length reaches → IsSteady (is_reached (get_or reaches k d)) place end next → AreSteady (take (k + 1) reaches) place limit next

@@ -1,9 +1,9 @@
 -- The places that lie at an offset from those of a block, and what a PET needs for its halo, by rows and columns. The steps of the code,
 -- not needed to read what the calls promise.
-use Rattle.std.specs.Prelude.{◌≡◌, ℕ, ◌+◌, ◌-◌, ◌*◌, ◌%◌, ◌≤◌, ◌<◌, ◌^◌, ◌==◌, ◌&&◌, ◌||◌, ℤ, pos, ◌+ℤ◌, unsigned_abs, min, Bool, true, not, List, slice_index_or}
+use Rattle.std.specs.Prelude.{◌≡◌, ℕ, ◌+◌, ◌-◌, ◌*◌, ◌%◌, ◌≤◌, ◌<◌, ◌^◌, ◌==◌, ◌&&◌, ◌||◌, ℤ, pos, ◌+ℤ◌, unsigned_abs, min, Bool, true, List, slice_index_or}
 use Rattle.std.specs.List.{All, list_any, range_with_len}
 use Rattle.cpl_grid.specs.Grid.{IsNumbering, IsOffset, column_at, row_at}
-use Rattle.cpl_grid.specs.Owners.{IsLayout, IsPartOf, IsPet}
+use Rattle.cpl_grid.specs.Owners.{IsLayout, IsPartOf}
 use Rattle.cpl_grid.specs.declared.blocks.Block.{Block}
 use Rattle.cpl_grid.specs.declared.grid.Grid.{Grid}
 use Rattle.cpl_route.specs.Places.{is_held}

@@ -9,8 +9,8 @@ pub returns-then-is_used_down-clause-rows : goal.returns-then-is_used_down-claus
 returns-then-is_used_down-clause-rows c =
     let P : ℕ → Type 0 = λ steps. IsImage (edge_place c.args.grid.ny steps) c.args.block c.edge_reach.result in
     λ used. image-reaches (row_at c.args.grid) (edge_place c.args.grid.ny (steps_from_least c.args.dy)) c.args.block c.args.dy c.edge_reach.result
-      (λ a. row_at-edge_place c.args.grid c.args.dy a c.requires.grid.rows c.requires.offset)
-      (subst P (c.steps_of-steps.ensures.value ∙ ap steps_from_least (to_z-of_z w8 c.args.dy c.ranges.dy)) c.edge_reach.ensures.image)
+    (λ a. row_at-edge_place c.args.grid c.args.dy a c.requires.grid.rows c.requires.offset)
+    (subst P (c.steps_of-steps.ensures.value ∙ ap steps_from_least (to_z-of_z w8 c.args.dy c.ranges.dy)) c.edge_reach.ensures.image)
 
 pub returns-else-is_used_down-clause-rows : goal.returns-else-is_used_down-clause-rows
 returns-else-is_used_down-clause-rows c =
