@@ -1,5 +1,8 @@
+mod HaloFacts
 mod OwnedFacts
+mod PairFacts
 mod PickFacts
+mod ReachFacts
 mod RouteFacts
 mod TableFacts
 mod WalkFacts

@@ -4,11 +4,14 @@
 
 mod examples;
 mod fault;
+mod halo;
+mod halo_pair;
 mod need;
 mod needs;
 mod owned;
 mod parts;
 mod pick;
+mod reach;
 mod redist;
 mod route;
 mod sorted;
