@@ -1,0 +1,7 @@
+//! Tests of routes.
+#![tactic(auto)]
+
+#[cfg(test)]
+mod plain;
+#[cfg(test)]
+mod routes;
