@@ -21,12 +21,16 @@ fn bit(pet: u8) -> u64 {
 pub fn plain_redist(alloc: Global, src: &Decomp, dst: &Decomp) -> Result<Vec<Sent>, Memory>
     requires { cells_in src.now.grid ≡ cells_in dst.now.grid }
 {
+    let mut owned = Vec::new(alloc);
+    for s in 1..src.grid().cells() + 1 {
+        owned.push((src.owner(s), dst.owner(s), s))?;
+    }
     let mut sent = Vec::new(alloc);
     for from in 0..64 {
         for to in 0..64 {
-            for s in 1..src.grid().cells() + 1 {
-                if src.owner(s) == from && dst.owner(s) == to {
-                    sent.push((from, to, s))?;
+            for (owner, receiver, s) in &owned {
+                if *owner == from && *receiver == to {
+                    sent.push((from, to, *s))?;
                 }
             }
         }
@@ -103,11 +107,12 @@ pub fn told(alloc: Global, route: &Route) -> Result<Vec<Sent>, Memory> {
     Ok(sent)
 }
 
-/// How many cells a route has over all pairs of PETs, also those that aren't among its pairs.
-pub fn over_all_pairs(route: &Route) -> usize {
+/// How many cells a route has over all pairs of a PET below 64 and a PET up to a last one, also those that aren't
+/// among its pairs.
+pub fn over_all_pairs(route: &Route, last: u8) -> usize {
     let mut count: usize = 0;
-    for from in 0..=255u8 {
-        for to in 0..=255u8 {
+    for from in 0..64 {
+        for to in 0..=last {
             count = count.saturating_add(route.cells(from, to).len());
         }
     }
