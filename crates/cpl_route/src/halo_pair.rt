@@ -56,8 +56,8 @@ impl<'a> HaloPair<'a> {
     pub fn is_far(&self, part: Part) -> bool
         requires sound { IsSound self.now }
         requires part { IsPart self.now.decomp.now.grid part }
-        ensures { let is_needed = is_halo self.now.decomp.now self.now.offsets.now self.now.pet in
-            IsTrue result → filter is_needed (cells_of_part self.now.decomp.now.grid part) ≡ [] }
+        ensures { let test = is_halo self.now.decomp.now self.now.offsets.now self.now.pet in
+            IsTrue result → filter test (cells_of_part self.now.decomp.now.grid part) ≡ [] }
     {
         if self.columns.misses(part.columns) {
             return true;
