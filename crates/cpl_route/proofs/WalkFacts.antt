@@ -99,7 +99,7 @@ stretch-more first cell before now from is =
     ∙ ap (λ xs. before ++ xs) (sym (ap (range_with_len first) more ∙ range-suc first (cell - first) ∙ ap (λ k. range_with_len first (cell - first) ++ k ∷ []) at))
 
 -- what a filter keeps isn't longer
-length-filter-le : (p : ℕ → Bool) (xs : List ℕ) → length (filter p xs) ≤ length xs
+pub length-filter-le : (p : ℕ → Bool) (xs : List ℕ) → length (filter p xs) ≤ length xs
 length-filter-le p [] = omega arith
 length-filter-le p (x ∷ xs) =
     let rest = length-filter-le p xs in

@@ -7,8 +7,8 @@ ghost use Rattle.cpl_grid.specs.Parts.{IsPart, cells_of_part};
 ghost use Rattle.cpl_route.specs.Reach.{AreOffsets, IsSound, is_met, is_reached, reach_for};
 ghost use Rattle.cpl_route.specs.Routes.{is_halo};
 
-use crate::needs::{Needs, Stretch, block_stretch};
-use crate::reach::{Reaches, holds};
+use crate::needs::{Needs, Stretch, block_stretch, holds};
+use crate::reach::Reaches;
 use cpl_grid::{Decomp, Part, numbering_laws};
 
 /// What one PET needs for its halo, and where the neighbours of its cells lie.

@@ -7,9 +7,17 @@ mod fault;
 mod halo_pair;
 mod need;
 mod needs;
+mod owned;
+mod parts;
+mod pick;
 mod reach;
+mod redist;
+mod route;
+mod sorted;
+mod table;
 mod walk;
 
 pub use examples::route_examples;
 pub use fault::RouteFault;
-pub use need::Need;
+pub use need::{Need, are_ascending};
+pub use route::Route;

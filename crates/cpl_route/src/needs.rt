@@ -68,3 +68,11 @@ pub(crate) fn block_stretch(block: Block, place: u32, limit: u32) -> Stretch
         }
     }
 }
+
+/// Whether a block holds a place.
+pub(crate) fn holds(block: Block, place: u32) -> bool
+    requires { block.start + block.length < 2 ^ 32 }
+    ensures { result ≡ is_held block place }
+{
+    place >= block.start && place < block.start + block.length
+}

@@ -6,7 +6,7 @@ ghost use Rattle.cpl_grid.specs.Grid.{IsGrid, IsOffset, column_at, row_at};
 ghost use Rattle.cpl_route.specs.Places.{is_held};
 ghost use Rattle.cpl_route.specs.Reach.{AreOffsets, AreReaches, AreSteady, IsImage, IsReachIn, IsSteady, IsWithin, edge_place, is_reached, is_used_across, is_used_down, nowhere, reach_for, reaches_column, reaches_row, ring_place, steps_from_least};
 
-use crate::needs::block_stretch;
+use crate::needs::{block_stretch, holds};
 use cpl_grid::{Block, Grid};
 
 /// The places, from 0, that lie at one offset from those of a block.
@@ -254,14 +254,6 @@ fn around(one: Block, other: Block) -> Block
         start,
         length: end - start,
     }
-}
-
-/// Whether a block holds a place.
-pub(crate) fn holds(block: Block, place: u32) -> bool
-    requires { block.start + block.length < 2 ^ 32 }
-    ensures { result ≡ is_held block place }
-{
-    block.start <= place && place < block.start + block.length
 }
 
 /// The places on a ring of `n` that lie so many steps less two from those of a block.
