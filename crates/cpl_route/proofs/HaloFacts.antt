@@ -15,8 +15,8 @@ use Rattle.cpl_grid.specs.declared.blocks.Part.{Part}
 use Rattle.cpl_grid.specs.declared.grid.Grid.{Grid}
 use Rattle.cpl_grid.proofs.RangeFacts.{All-range, filter-range_none}
 use Rattle.cpl_route.specs.Places.{AreAlike, IsStretch, cell_in, is_held, needed_in_row, needed_in_rows}
-use Rattle.cpl_route.specs.Reach.{AreOffsets, AreReaches, AreSteady, IsSound, is_met, is_reached, is_used_across, is_used_down, reach_for, steps_from_least}
-use Rattle.cpl_route.specs.Routes.{is_halo, is_neighbour}
+use Rattle.cpl_route.specs.Reach.{AreReaches, AreSteady, IsSound, is_met, is_reached, is_used_across, is_used_down, reach_for, steps_from_least}
+use Rattle.cpl_route.specs.Routes.{AreOffsets, is_halo, is_neighbour}
 use Rattle.cpl_route.specs.declared.halo_pair.HaloPair.{HaloPair}
 use Rattle.cpl_route.specs.declared.needs.Stretch.{Stretch}
 use Rattle.cpl_route.specs.declared.reach.Reaches.{Reaches}

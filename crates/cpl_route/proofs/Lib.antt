@@ -1,5 +1,6 @@
 mod HaloFacts
 mod OwnedFacts
+mod PairFacts
 mod PickFacts
 mod ReachFacts
 mod RouteFacts

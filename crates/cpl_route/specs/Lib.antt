@@ -1,4 +1,5 @@
 pub mod Examples
+pub mod Halos
 pub mod Kept
 pub mod Picks
 pub mod Places

@@ -7,6 +7,7 @@ use Rattle.cpl_grid.specs.Owners.{IsLayout, IsPartOf}
 use Rattle.cpl_grid.specs.declared.blocks.Block.{Block}
 use Rattle.cpl_grid.specs.declared.grid.Grid.{Grid}
 use Rattle.cpl_route.specs.Places.{is_held}
+use Rattle.cpl_route.specs.Routes.{AreOffsets}
 use Rattle.cpl_route.specs.declared.halo_pair.HaloPair.{HaloPair}
 use Rattle.cpl_route.specs.declared.reach.Reach.{Reach}
 use Rattle.cpl_route.specs.declared.reach.Reaches.{Reaches}
@@ -93,10 +94,6 @@ pub record AreReaches (number_at : ℤ → ℕ) (is_used : ℤ → Bool) (block 
 abbrev pub is_met : Reaches → Reaches → List (ℤ × ℤ) → ℕ → ℕ → Bool
 is_met columns rows offsets row column =
     list_any (λ offset. is_reached (reach_for columns offset.0) column && is_reached (reach_for rows offset.1) row) offsets
-
--- the offsets of a halo, along the columns and along the rows
-abbrev pub AreOffsets : List (ℤ × ℤ) → Type 0
-AreOffsets offsets = All (λ offset. IsOffset offset.0 × IsOffset offset.1) offsets
 
 -- what a halo's pair keeps is of its layout, offsets and PET
 pub record IsSound (pair : HaloPair) : Type 0 where

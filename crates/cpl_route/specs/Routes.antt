@@ -1,7 +1,7 @@
 -- Routes: which cells each PET sends to each other.
 use Rattle.std.specs.Prelude.{◌≡◌, ℕ, ◌+◌, ◌<◌, ◌≤◌, ◌==◌, ◌||◌, ◌&&◌, ℤ, Bool, true, not, nat_le, slice_index_or, Result, Ok, Err, Some, slice_get, nat_lt, List, [], length, map, filter, ◌∷◌, sum_by, if◌then◌else◌}
 use Rattle.std.specs.List.{All, flat_map, list_any, range_with_len}
-use Rattle.cpl_grid.specs.Grid.{cells_in, neighbour_of}
+use Rattle.cpl_grid.specs.Grid.{IsOffset, cells_in, neighbour_of}
 use Rattle.cpl_grid.specs.Owners.{Layout, cells_of, owner_of, pets_in}
 use Rattle.cpl_route.specs.declared.fault.RouteFault.{RouteFault}
 use Rattle.cpl_route.specs.declared.fault.RouteFault.TheVariants.{SizeDiffers}
@@ -56,6 +56,10 @@ abbrev pub redist_answer : Layout → Layout → Result (List Leg) RouteFault
 redist_answer src dst =
     if cells_in src.grid == cells_in dst.grid then Ok (redist_route src dst)
     else Err (SizeDiffers (cells_in src.grid) (cells_in dst.grid))
+
+-- the offsets reach at most two columns and two rows
+abbrev pub AreOffsets : List (ℤ × ℤ) → Type 0
+AreOffsets offsets = All (λ offset. IsOffset offset.0 × IsOffset offset.1) offsets
 
 -- a cell is a neighbour, at one of the offsets, of a cell of the PET
 abbrev pub is_neighbour : Layout → List (ℤ × ℤ) → ℕ → ℕ → Bool

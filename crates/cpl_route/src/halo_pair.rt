@@ -4,8 +4,8 @@ ghost use Rattle.std.specs.Prelude.{◌≡◌, ◌&&◌, [], filter, IsTrue};
 ghost use Rattle.cpl_grid.specs.Grid.{IsOffset};
 ghost use Rattle.cpl_grid.specs.Owners.{IsPet};
 ghost use Rattle.cpl_grid.specs.Parts.{IsPart, cells_of_part};
-ghost use Rattle.cpl_route.specs.Reach.{AreOffsets, IsSound, is_met, is_reached, reach_for};
-ghost use Rattle.cpl_route.specs.Routes.{is_halo};
+ghost use Rattle.cpl_route.specs.Reach.{IsSound, is_met, is_reached, reach_for};
+ghost use Rattle.cpl_route.specs.Routes.{AreOffsets, is_halo};
 
 use crate::needs::{Needs, Stretch, block_stretch, holds};
 use crate::reach::Reaches;

@@ -4,6 +4,7 @@
 
 mod examples;
 mod fault;
+mod halo;
 mod halo_pair;
 mod need;
 mod needs;

@@ -4,7 +4,8 @@ ghost use Rattle.std.specs.Prelude.{◌≡◌, ℕ, ◌+◌, ◌≤◌, ◌<◌,
 ghost use Rattle.std.specs.List.{All, list_any};
 ghost use Rattle.cpl_grid.specs.Grid.{IsGrid, IsOffset, column_at, row_at};
 ghost use Rattle.cpl_route.specs.Places.{is_held};
-ghost use Rattle.cpl_route.specs.Reach.{AreOffsets, AreReaches, AreSteady, IsImage, IsReachIn, IsSteady, IsWithin, edge_place, is_reached, is_used_across, is_used_down, nowhere, reach_for, reaches_column, reaches_row, ring_place, steps_from_least};
+ghost use Rattle.cpl_route.specs.Routes.{AreOffsets};
+ghost use Rattle.cpl_route.specs.Reach.{AreReaches, AreSteady, IsImage, IsReachIn, IsSteady, IsWithin, edge_place, is_reached, is_used_across, is_used_down, nowhere, reach_for, reaches_column, reaches_row, ring_place, steps_from_least};
 
 use crate::needs::{block_stretch, holds};
 use cpl_grid::{Block, Grid};

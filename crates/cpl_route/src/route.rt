@@ -4,11 +4,12 @@ ghost use Rattle.std.specs.Prelude.{◌≡◌, ℕ, ◌+◌, ◌≤◌, ◌<◌,
 ghost use Rattle.std.specs.List.{All};
 ghost use Rattle.cpl_base.specs.Gives.{Gives};
 ghost use Rattle.cpl_grid.specs.Grid.{cells_in};
-ghost use Rattle.cpl_route.specs.Routes.{AreLegs, ArePetsDistinct, IsRising, are_ascending, cells_between, cells_sent, ends_of, pick_route, redist_answer, redist_route};
+ghost use Rattle.cpl_route.specs.Routes.{AreLegs, AreOffsets, ArePetsDistinct, IsRising, are_ascending, cells_between, cells_sent, ends_of, halo_route, pick_route, redist_answer, redist_route};
 ghost use Rattle.cpl_route.specs.Tables.{AreRankedLegs, IsSpan, IsTable, legs_at, pairs_of, rank_of, span_rank};
 ghost use Rattle.cpl_route.specs.declared.fault.RouteFault.{RouteFault};
 
 use crate::fault::RouteFault;
+use crate::halo::halo_of;
 use crate::need::{Need, are_ascending};
 use crate::pick::pick_of;
 use crate::redist::redist_between;
@@ -76,6 +77,37 @@ impl Route {
     {
         let _ = dst.pets();
         total_of(&redist_between(src, dst))
+    }
+
+    /// The halo of a decomposed grid: each PET gets the neighbours of its cells, at any of the offsets, that it doesn't own,
+    /// each once, from the PETs that own them. An offset is a number of columns and a number of rows, both from -2 to 2;
+    /// where the grid is periodic the columns are a ring, and past any other edge stands the edge. Takes four bytes a
+    /// cell.
+    ///
+    /// Errors: `Memory`.
+    ///
+    /// Source: ESMF Reference Manual, halo regions of Arrays; which cells are neighbours, this project's own.
+    pub fn halo(alloc: Global, decomp: &Decomp, offsets: &[(i8, i8)]) -> Result<Route, Memory>
+        requires { AreOffsets offsets.now }
+        ensures { IfOk result (λ route. route ≡ halo_route decomp.now offsets.now) }
+    {
+        let _ = decomp.pets();
+        let halo = halo_of(decomp, offsets);
+        let room = total_of(&halo) as usize;
+        let table = table_of(alloc, &halo, room)?;
+        let route = route_with(alloc, table)?;
+        Ok(route)
+    }
+
+    /// How many cells the halo of a decomposed grid sends; the offsets are from -2 to 2. Takes no memory.
+    ///
+    /// Source: this project's own.
+    pub fn halo_total(decomp: &Decomp, offsets: &[(i8, i8)]) -> u64
+        requires { AreOffsets offsets.now }
+        ensures { result ≡ cells_sent (halo_route decomp.now offsets.now) }
+    {
+        let _ = decomp.pets();
+        total_of(&halo_of(decomp, offsets))
     }
 
     /// The route by which each PET gets the cells of its list from the PETs that own them: each cell of the list that the
