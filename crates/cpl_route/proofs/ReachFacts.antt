@@ -216,8 +216,8 @@ unfolding is_used_down
 used_down-steps offsets dy steps is = ap (λ k. list_any (λ offset. eqb (steps_from_least offset.1) k) offsets) is
 
 -- an offset that isn't used
-pub unused : {A : Type 0} (result any used : Bool) → result ≡ any → any ≡ used → result ≡ false → used ≡ true → A
-unused result any used is same none some = absurd (true≢false (sym some ∙ sym same ∙ sym is ∙ none))
+pub used-clash : {A : Type 0} (result any used : Bool) → result ≡ any → any ≡ used → result ≡ false → used ≡ true → A
+used-clash result any used is same none some = absurd (true≢false (sym some ∙ sym same ∙ sym is ∙ none))
 
 -- a block around one that has a reach has it too
 pub within-around : (block hull : Block) (reach : Reach) → IsWithin block reach → ((i : ℕ) → is_held block i ≡ true → is_held hull i ≡ true) → IsWithin hull reach

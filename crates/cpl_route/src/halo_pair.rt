@@ -51,11 +51,13 @@ impl<'a> HaloPair<'a> {
         }
     }
 
-    /// Whether none of the cells of a part is needed, by a few comparisons. It may be false of such a part.
+    /// Whether none of the cells of a part is needed, by a few comparisons: it is what the PET owns, or
+    /// outside a box around all that can be reached. It may be false of other such parts.
     pub fn is_far(&self, part: Part) -> bool
         requires sound { IsSound self.now }
         requires part { IsPart self.now.decomp.now.grid part }
-        ensures { IsTrue result → filter (is_halo self.now.decomp.now self.now.offsets.now self.now.pet) (cells_of_part self.now.decomp.now.grid part) ≡ [] }
+        ensures { let test = is_halo self.now.decomp.now self.now.offsets.now self.now.pet in
+            IsTrue result → filter test (cells_of_part self.now.decomp.now.grid part) ≡ [] }
     {
         if self.columns.misses(part.columns) {
             return true;
@@ -84,7 +86,8 @@ impl<'a> HaloPair<'a> {
         requires sound { IsSound self.now }
         requires across { IsOffset offset.0 }
         requires down { IsOffset offset.1 }
-        ensures { result ≡ (is_reached (reach_for self.now.columns offset.0) column && is_reached (reach_for self.now.rows offset.1) row) }
+        ensures { result ≡ (is_reached (reach_for self.now.columns offset.0) column
+            && is_reached (reach_for self.now.rows offset.1) row) }
     {
         let (dx, dy) = offset;
         self.columns.holds(dx, column) && self.rows.holds(dy, row)

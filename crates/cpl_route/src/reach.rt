@@ -35,7 +35,8 @@ pub(crate) fn columns_reached(grid: Grid, block: Block, offsets: &[(i8, i8)], dx
     requires offset { IsOffset dx }
     requires offsets { AreOffsets offsets.now }
     requires within { block.start + block.length ≤ grid.nx }
-    ensures columns { is_used_across offsets.now dx ≡ true → (i : ℕ) → is_reached result i ≡ reaches_column grid block dx i }
+    ensures columns { is_used_across offsets.now dx ≡ true →
+        (i : ℕ) → is_reached result i ≡ reaches_column grid block dx i }
     ensures within { IsReachIn grid.nx result }
 {
     let steps = steps_of(dx);
@@ -55,7 +56,8 @@ pub(crate) fn rows_reached(grid: Grid, block: Block, offsets: &[(i8, i8)], dy: i
     requires offset { IsOffset dy }
     requires offsets { AreOffsets offsets.now }
     requires within { block.start + block.length ≤ grid.ny }
-    ensures rows { is_used_down offsets.now dy ≡ true → (j : ℕ) → is_reached result j ≡ reaches_row grid block dy j }
+    ensures rows { is_used_down offsets.now dy ≡ true →
+        (j : ℕ) → is_reached result j ≡ reaches_row grid block dy j }
     ensures within { IsReachIn grid.ny result }
 {
     let steps = steps_of(dy);
