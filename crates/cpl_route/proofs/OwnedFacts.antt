@@ -72,10 +72,10 @@ owned-stretch layout to part row column limit stretch numbering is_part row_in l
   some = some;
   within = within;
   same = λ i from end.
-    owned-place layout to part row i numbering is_part row_in (omega arith)
-    ∙ ap (λ b. is_held part.columns i && b) in_rows
-    ∙ and-true (is_held part.columns i)
-    ∙ same i from end;
+      owned-place layout to part row i numbering is_part row_in (omega arith)
+      ∙ ap (λ b. is_held part.columns i && b) in_rows
+      ∙ and-true (is_held part.columns i)
+      ∙ same i from end;
 }
 
 -- in a row that the part hasn't, nothing is owned
@@ -84,9 +84,9 @@ owned-no_row layout to part row column limit numbering is_part row_in limit_in s
   some = some;
   within = omega arith;
   same = λ i from end.
-    owned-place layout to part row i numbering is_part row_in (omega arith)
-    ∙ ap (λ b. is_held part.columns i && b) not_in_rows
-    ∙ and-false (is_held part.columns i);
+      owned-place layout to part row i numbering is_part row_in (omega arith)
+      ∙ ap (λ b. is_held part.columns i && b) not_in_rows
+      ∙ and-false (is_held part.columns i);
 }
 
 -- rows that the part has or hasn't alike, are alike
@@ -96,12 +96,12 @@ owned-alike layout to part nx ny row limit end needed numbering is_part is_nx is
   within = within;
   alike = record {
     same = λ j i from to_end column_in.
-      let column : i < layout.grid.nx = omega arith in
-      ap (λ k. is_owned layout to (cell_in k j i)) is_nx
-      ∙ owned-place layout to part j i numbering is_part (omega arith) column
-      ∙ ap (λ b. is_held part.columns i && b) (same j from to_end ∙ sym (same row (omega arith) some))
-      ∙ sym (owned-place layout to part row i numbering is_part (omega arith) column)
-      ∙ ap (λ k. is_owned layout to (cell_in k row i)) (sym is_nx);
+        let column : i < layout.grid.nx = omega arith in
+        ap (λ k. is_owned layout to (cell_in k j i)) is_nx
+        ∙ owned-place layout to part j i numbering is_part (omega arith) column
+        ∙ ap (λ b. is_held part.columns i && b) (same j from to_end ∙ sym (same row (omega arith) some))
+        ∙ sym (owned-place layout to part row i numbering is_part (omega arith) column)
+        ∙ ap (λ k. is_owned layout to (cell_in k row i)) (sym is_nx);
   };
 }
 
@@ -112,8 +112,8 @@ alike-itself test nx row limit inside = record {
   within = omega arith;
   alike = record {
     same = λ j i from end column_in.
-      let here : j ≡ row = omega arith in
-      ap (λ k. test (cell_in nx k i)) here;
+        let here : j ≡ row = omega arith in
+        ap (λ k. test (cell_in nx k i)) here;
   };
 }
 
@@ -127,8 +127,8 @@ stretch-elsewhere test nx row column limit wide width there_row there there_limi
       some = omega arith;
       within = omega arith;
       same = λ i from end.
-        let same_cell : cell_in nx row i ≡ cell_in width there_row (there + (i - column)) = omega arith in
-        ap test same_cell ∙ is.same (there + (i - column)) (omega arith) (omega arith);
+          let same_cell : cell_in nx row i ≡ cell_in width there_row (there + (i - column)) = omega arith in
+          ap test same_cell ∙ is.same (there + (i - column)) (omega arith) (omega arith);
     }
 
 -- grids of equal numbers of cells and of columns have as many rows

@@ -86,8 +86,8 @@ stretch-run xs nx row column limit first run is some within listed = record {
   some = omega arith;
   within = omega arith;
   same = λ i from end.
-    let there : cell_in nx row i ≡ first + (i - column) = omega arith in
-    ap (is_listed xs) there ∙ listed (i - column) (omega arith);
+      let there : cell_in nx row i ≡ first + (i - column) = omega arith in
+      ap (is_listed xs) there ∙ listed (i - column) (omega arith);
 }
 
 -- what ascending lists say of the first
@@ -334,7 +334,7 @@ ascending-from : (least : ℕ) (xs : List ℕ) → ((k d : ℕ) → k < length x
 ascending-from least [] from order = refl
 ascending-from least (x ∷ xs) from order =
     rw (le-leb least x (from 0 0 (omega arith)))
-      (ascending-from x xs (λ k d inside. order 0 (suc k) d (omega arith) (omega arith)) (λ i j d below inside. order (suc i) (suc j) d (omega arith) (omega arith)))
+    (ascending-from x xs (λ k d inside. order 0 (suc k) d (omega arith) (omega arith)) (λ i j d below inside. order (suc i) (suc j) d (omega arith) (omega arith)))
 
 -- a sorted copy ascends and lists the same
 pub sorted-ascending : (xs : List ℕ) → IsNonDecreasingBy (λ x. x) xs → is_ascending 0 xs ≡ true
@@ -358,7 +358,7 @@ pub route-alike : (src : Layout) (needs copies : List Need) → ArePickedAlike n
 unfolding route_of pickers_of
 route-alike src needs copies alike =
     let pickers : filter (has_list copies) (range_with_len 0 256) ≡ filter (has_list needs) (range_with_len 0 256) =
-      filter-same (has_list copies) (has_list needs) 0 256 (λ s from to. alike.listed s (omega arith)) in
+    filter-same (has_list copies) (has_list needs) 0 256 (λ s from to. alike.listed s (omega arith)) in
     let bytes = All-filter (has_list needs) (λ to. to < 256) (range_with_len 0 256) (All-range (λ to. to < 256) 0 256 (λ s from to. omega arith)) in
     ap (λ receivers. flat_map (legs_from src (is_picked copies) receivers) (pets_of src)) pickers
     ∙ (λ i. flat_map (λ from. legs_from-same src (is_picked copies) (is_picked needs) (filter (has_list needs) (range_with_len 0 256)) from (λ to s byte. alike.picked to s byte) bytes i) (pets_of src))

@@ -85,14 +85,14 @@ senders-rising src is_needed receivers a (suc n) base is_base rising bytes =
     let first : IsRising base (map leg_rank (legs a)) = subst (λ k. IsRising k (map leg_rank (legs a))) here (sender-rising src is_needed receivers a 0 base is_base rising) in
     let small = ranks-all (λ x. x < base + 256) (legs a) (legs_from-all (λ leg. leg_rank leg < base + 256) src is_needed receivers a (λ to byte some. omega arith) bytes) in
     rw (map-append leg_rank (legs a) (flat_map legs (range_with_len (a + 1) n)))
-      (rising-append base (base + 256) (map leg_rank (legs a)) (map leg_rank (flat_map legs (range_with_len (a + 1) n))) (omega arith) first small rest)
+    (rising-append base (base + 256) (map leg_rank (legs a)) (map leg_rank (flat_map legs (range_with_len (a + 1) n))) (omega arith) first small rest)
 
 -- what holds of each leg that senders may send, holds of those that they send
 senders-all : (P : Leg → Type 0) (src : Layout) (is_needed : ℕ → ℕ → Bool) (receivers : List ℕ) (a n : ℕ) → ((from to : ℕ) → to < 256 → has_cells (leg_between src is_needed from to) ≡ true → P (leg_between src is_needed from to)) → All (λ to. to < 256) receivers → All P (flat_map (legs_from src is_needed receivers) (range_with_len a n))
 senders-all P src is_needed receivers a zero each bytes = All-nil P
 senders-all P src is_needed receivers a (suc n) each bytes =
     All-append P (legs_from src is_needed receivers a) (flat_map (legs_from src is_needed receivers) (range_with_len (a + 1) n))
-      (legs_from-all P src is_needed receivers a (each a) bytes) (senders-all P src is_needed receivers (a + 1) n each bytes)
+    (legs_from-all P src is_needed receivers a (each a) bytes) (senders-all P src is_needed receivers (a + 1) n each bytes)
 
 -- a leg with cells has some
 some-cells : (leg : Leg) → has_cells leg ≡ true → 0 < length leg.cells
@@ -108,7 +108,7 @@ route-ranked src is_needed receivers rising bytes =
     let first = src.first_pet in
     record {
       rising = rising-lower 0 (first * 256) (map leg_rank (flat_map (legs_from src is_needed receivers) (pets_of src))) (omega arith)
-        (senders-rising src is_needed receivers first (pets_in src) (first * 256) refl rising bytes);
+          (senders-rising src is_needed receivers first (pets_in src) (first * 256) refl rising bytes);
       bytes = senders-all (λ leg. leg.to < 256) src is_needed receivers first (pets_in src) (λ from to byte some. byte) bytes;
       some = senders-all (λ leg. 0 < length leg.cells) src is_needed receivers first (pets_in src) (λ from to byte has. some-cells (leg_between src is_needed from to) has) bytes;
     }
@@ -169,8 +169,8 @@ before-from_rank a b lower byte_a byte_b = elim (cases_order a.0 b.0) [
 pub legs-ranked : (legs : List Leg) → AreRankedLegs legs → AreLegs legs
 legs-ranked legs ranked = record {
   ascending = λ i j a b before at_i at_j.
-    let order = legs-before 0 legs i j a b ranked.rising ranked.bytes before at_i at_j in
-    before-from_rank a b order.0 order.1 order.2;
+      let order = legs-before 0 legs i j a b ranked.rising ranked.bytes before at_i at_j in
+      before-from_rank a b order.0 order.1 order.2;
   some = ranked.some;
 }
 
@@ -240,7 +240,7 @@ between-nowhere free (first ∷ spans) cells from to zero rising lower above =
 between-nowhere free (first ∷ spans) cells from to (suc place) rising lower above =
     let less = lower 0 first (omega arith) (omega arith) in
     rw (other-pair first cells from to (λ same. omega arith))
-      (between-nowhere (span_rank first + 1) spans cells from to place rising.1 (λ k other below inside. lower (suc k) other (omega arith) (omega arith)) (λ other inside. above other (omega arith)))
+    (between-nowhere (span_rank first + 1) spans cells from to place rising.1 (λ k other below inside. lower (suc k) other (omega arith) (omega arith)) (λ other inside. above other (omega arith)))
 
 -- a span's rank is at least the one from which the ranks rise
 rising-get : (free : ℕ) (spans : List Span) (j : ℕ) (other : Span) → IsRising free (map span_rank spans) → j < length spans → free ≤ span_rank (get_or spans j other)
@@ -289,7 +289,7 @@ pub found-at : (spans : List Span) (from to rank place : ℕ) (span : Span) → 
 found-at spans from to rank place span rising is_rank point inside is same cells =
     let parts = and_parts (eqb span.from from) (eqb span.to to) same in
     between-at 0 spans cells from to place span rising (λ k other below. let lower = point-lower spans rank place point k other below in omega arith) inside is
-      (eqb-true span.from from parts.0) (eqb-true span.to to parts.1)
+    (eqb-true span.from from parts.0) (eqb-true span.to to parts.1)
 
 -- equal ranks are of equal PETs
 ranks-equal : (from to from' to' : ℕ) → to < 256 → to' < 256 → rank_of from to ≡ rank_of from' to' → (from ≡ from') × (to ≡ to')
@@ -301,28 +301,28 @@ ranks-equal from to from' to' byte byte' same =
 pub not_found-at : (spans : List Span) (size from to rank place : ℕ) (span : Span) → All (IsSpan size) spans → to < 256 → IsRising 0 (map span_rank spans) → rank ≡ rank_of from to → IsPartitionPoint (λ s. ltb (span_rank s) rank ≡ true) (λ s. ltb (span_rank s) rank ≡ false) spans place → place < length spans → span ≡ get_or spans place span → (eqb span.from from && eqb span.to to) ≡ false → (cells : List ℕ) → [] ≡ cells_between (legs_at spans cells) from to
 not_found-at spans size from to rank place span spans_in byte rising is_rank point inside is differ cells =
     sym (between-nowhere 0 spans cells from to place rising
-      (λ k other below within. let lower = point-lower spans rank place point k other below in omega arith)
-      (λ other within.
-        let at_least = ltb-false (span_rank (get_or spans place other)) rank (point.1 place other (omega arith) within) in
-        let same_span : get_or spans place other ≡ span = get_or_default spans place other span within ∙ sym is in
-        let span_in : IsSpan size (get_or spans place other) = spans_in place other within in
-        let its_byte = span_in.to in
-        elim (cases_order (span_rank (get_or spans place other)) (rank_of from to)) [
-          | inl equal ↦
-              let parts = ranks-equal (get_or spans place other).from (get_or spans place other).to from to its_byte byte equal in
-              let same_from : eqb span.from from ≡ true = eq-eqb span.from from (ap (λ s. s.from) (sym same_span) ∙ parts.0) in
-              let same_to : eqb span.to to ≡ true = eq-eqb span.to to (ap (λ s. s.to) (sym same_span) ∙ parts.1) in
-              let both : (eqb span.from from && eqb span.to to) ≡ true = rw (same_from, same_to) refl in
-              absurd (cc)
-          | inr other_rank ↦ elim other_rank [ inl less ↦ absurd (omega arith) | inr greater ↦ greater ]
-        ]))
+    (λ k other below within. let lower = point-lower spans rank place point k other below in omega arith)
+    (λ other within.
+    let at_least = ltb-false (span_rank (get_or spans place other)) rank (point.1 place other (omega arith) within) in
+    let same_span : get_or spans place other ≡ span = get_or_default spans place other span within ∙ sym is in
+    let span_in : IsSpan size (get_or spans place other) = spans_in place other within in
+    let its_byte = span_in.to in
+    elim (cases_order (span_rank (get_or spans place other)) (rank_of from to)) [
+      | inl equal ↦
+          let parts = ranks-equal (get_or spans place other).from (get_or spans place other).to from to its_byte byte equal in
+          let same_from : eqb span.from from ≡ true = eq-eqb span.from from (ap (λ s. s.from) (sym same_span) ∙ parts.0) in
+          let same_to : eqb span.to to ≡ true = eq-eqb span.to to (ap (λ s. s.to) (sym same_span) ∙ parts.1) in
+          let both : (eqb span.from from && eqb span.to to) ≡ true = rw (same_from, same_to) refl in
+          absurd (cc)
+      | inr other_rank ↦ elim other_rank [ inl less ↦ absurd (omega arith) | inr greater ↦ greater ]
+    ]))
 
 -- a pair has no span where halving finds the end
 pub not_found-end : (spans : List Span) (from to rank place : ℕ) → IsRising 0 (map span_rank spans) → rank ≡ rank_of from to → IsPartitionPoint (λ s. ltb (span_rank s) rank ≡ true) (λ s. ltb (span_rank s) rank ≡ false) spans place → length spans ≤ place → (cells : List ℕ) → [] ≡ cells_between (legs_at spans cells) from to
 not_found-end spans from to rank place rising is_rank point end cells =
     sym (between-nowhere 0 spans cells from to place rising
-      (λ k other below within. let lower = point-lower spans rank place point k other below in omega arith)
-      (λ other within. absurd (omega arith)))
+    (λ k other below within. let lower = point-lower spans rank place point k other below in omega arith)
+    (λ other within. absurd (omega arith)))
 
 -- grids of equal numbers of cells have a redistribution
 pub answer-ok : (src dst : Layout) → cells_in src.grid ≡ cells_in dst.grid → redist_answer src dst ≡ Ok (redist_route src dst)

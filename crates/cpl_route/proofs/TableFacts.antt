@@ -23,8 +23,8 @@ leg_at-kept cells more span is =
     let start : span.start ≤ length cells = omega arith in
     let rest : span.end - span.start ≤ length (drop span.start cells) = omega (arith, length-drop span.start cells) in
     ap (λ xs. record { from = span.from; to = span.to; cells = xs })
-      (ap (take (span.end - span.start)) (drop-append-le span.start cells more start)
-      ∙ take-append-le (span.end - span.start) (drop span.start cells) more rest)
+    (ap (take (span.end - span.start)) (drop-append-le span.start cells more start)
+    ∙ take-append-le (span.end - span.start) (drop span.start cells) more rest)
 
 -- legs have the same cells in a longer list
 legs_at-kept : (spans : List Span) (cells more : List ℕ) → All (IsSpan (length cells)) spans → legs_at spans (cells ++ more) ≡ legs_at spans cells
@@ -82,10 +82,10 @@ legs-add spans cells from to added after span more table from_byte to_byte is_af
           let test : nat_lt span.start span.end ≡ true = lt-ltb span.start span.end (omega arith) in
           let one : more ≡ spans ++ span ∷ [] = is_more ∙ ap (λ b. spans ++ (if b then span ∷ [] else [])) test in
           let is_leg : leg_at after span ≡ leg =
-            ap (leg_at after) is_span ∙ ap (λ xs. record { from = from; to = to; cells = slice_range xs (length cells) (length xs) }) is_after
-            ∙ ap (λ xs. record { from = from; to = to; cells = xs }) (slice-added cells added) in
+          ap (leg_at after) is_span ∙ ap (λ xs. record { from = from; to = to; cells = slice_range xs (length cells) (length xs) }) is_after
+          ∙ ap (λ xs. record { from = from; to = to; cells = xs }) (slice-added cells added) in
           let legs : legs_at more after ≡ legs_at spans cells ++ leg ∷ [] =
-            ap (λ ss. legs_at ss after) one ∙ legs_at-append spans (span ∷ []) after ∙ ap (λ l. l ++ leg_at after span ∷ []) kept ∙ ap (λ l. legs_at spans cells ++ l ∷ []) is_leg in
+          ap (λ ss. legs_at ss after) one ∙ legs_at-append spans (span ∷ []) after ∙ ap (λ l. l ++ leg_at after span ∷ []) kept ∙ ap (λ l. legs_at spans cells ++ l ∷ []) is_leg in
           record {
             table = record {
               within = rw one (All-append (IsSpan (length after)) spans (span ∷ []) wider (All-cons (IsSpan (length after)) span [] (record { order = omega arith; within = omega arith; from = rw is_span from_byte; to = rw is_span to_byte }) (All-nil (IsSpan (length after)))));
@@ -163,10 +163,10 @@ receivers-more src is_needed receivers from place total count so_far inside is f
     let bound = so_far.few in
     record {
       value =
-        ap (λ n. n + count) value
-        ∙ ap (λ n. cells_sent before + n) (is ∙ sym (sent-one (leg_between src is_needed from to)))
-        ∙ sym (sent-append before (legs_from src is_needed (to ∷ []) from))
-        ∙ ap cells_sent (sym (legs_from-more src is_needed receivers from place inside));
+          ap (λ n. n + count) value
+          ∙ ap (λ n. cells_sent before + n) (is ∙ sym (sent-one (leg_between src is_needed from to)))
+          ∙ sym (sent-append before (legs_from src is_needed (to ∷ []) from))
+          ∙ ap cells_sent (sym (legs_from-more src is_needed receivers from place inside));
       few = omega arith;
     }
 
@@ -180,10 +180,10 @@ senders-more src is_needed receivers from total count so_far started is few =
     let grows : suc (from - src.first_pet) * 268435456 ≡ 268435456 + (from - src.first_pet) * 268435456 = omega arith in
     record {
       value =
-        ap (λ n. n + count) so_far.value
-        ∙ ap (λ n. cells_sent before + n) is
-        ∙ sym (sent-append before (legs from))
-        ∙ ap cells_sent (sym (route-more legs src.first_pet from started));
+          ap (λ n. n + count) so_far.value
+          ∙ ap (λ n. cells_sent before + n) is
+          ∙ sym (sent-append before (legs from))
+          ∙ ap cells_sent (sym (route-more legs src.first_pet from started));
       few = rw more (omega arith);
     }
 

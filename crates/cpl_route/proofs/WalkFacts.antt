@@ -140,11 +140,11 @@ along-more test nx columns row column limit stretch before now after along is_li
     record {
       passing = record { started = omega arith; within = omega arith };
       cells =
-        more
-        ∙ ap (λ xs. xs ++ (if stretch.needed then range_with_len (cell_in nx row column) (stretch.end - column) else [])) along.cells
-        ∙ append_assoc before (needed_so_far test nx columns row column) (if stretch.needed then range_with_len (cell_in nx row column) (stretch.end - column) else [])
-        ∙ ap (λ xs. before ++ (needed_so_far test nx columns row column ++ xs)) (sym (stretch-cells test nx row column limit stretch is))
-        ∙ ap (λ xs. before ++ xs) (sym (so_far-more test nx columns row column stretch.end started (omega arith)));
+          more
+          ∙ ap (λ xs. xs ++ (if stretch.needed then range_with_len (cell_in nx row column) (stretch.end - column) else [])) along.cells
+          ∙ append_assoc before (needed_so_far test nx columns row column) (if stretch.needed then range_with_len (cell_in nx row column) (stretch.end - column) else [])
+          ∙ ap (λ xs. before ++ (needed_so_far test nx columns row column ++ xs)) (sym (stretch-cells test nx row column limit stretch is))
+          ∙ ap (λ xs. before ++ xs) (sym (so_far-more test nx columns row column stretch.end started (omega arith)));
     }
 
 -- no column is passed yet
@@ -195,8 +195,8 @@ counted-more test nx columns row column limit stretch total after counted is_lim
     let cells = needed_so_far test nx columns row column in
     let added = (if stretch.needed then range_with_len (cell_in nx row column) (stretch.end - column) else []) in
     let joined : length (needed_so_far test nx columns row stretch.end) ≡ length cells + length added =
-      ap length (so_far-more test nx columns row column stretch.end started (omega arith) ∙ ap (λ xs. cells ++ xs) (stretch-cells test nx row column limit stretch is))
-      ∙ length-append cells added in
+    ap length (so_far-more test nx columns row column stretch.end started (omega arith) ∙ ap (λ xs. cells ++ xs) (stretch-cells test nx row column limit stretch is))
+    ∙ length-append cells added in
     let long = stretch-length stretch.needed (cell_in nx row column) (stretch.end - column) in
     record {
       passing = record { started = omega arith; within = omega arith };
@@ -287,8 +287,8 @@ in_rows-fit nx bound more cells fit a (suc n) within =
     let f : ℕ → List ℕ = λ j. map (λ s. s + j * nx) cells in
     let lower : a * nx ≤ more * nx = mul-le-mul_right nx (omega arith) in
     All-append (λ s. s < bound) (f a) (flat_map f (range_with_len (a + 1) n))
-      (All-map (λ s. s < bound) (λ s. s + a * nx) cells (All-weaker (λ s. s + more * nx < bound) (λ s. s + a * nx < bound) (λ s small. omega arith) cells fit))
-      (in_rows-fit nx bound more cells fit (a + 1) n (omega arith))
+    (All-map (λ s. s < bound) (λ s. s + a * nx) cells (All-weaker (λ s. s + more * nx < bound) (λ s. s + a * nx < bound) (λ s small. omega arith) cells fit))
+    (in_rows-fit nx bound more cells fit (a + 1) n (omega arith))
 
 -- what a copied cell becomes, fits
 pub in_rows-fits : (nx bound more : ℕ) (cells : List ℕ) (k : ℕ) → All (λ s. s + more * nx < bound) cells → k < length cells * (more + 1) → get_or (in_rows nx cells (more + 1)) k 0 < bound
@@ -323,10 +323,10 @@ copied-none nx from more before place =
     let wide : length before - from + 0 ≡ length cells = omega (arith, length-drop from before) in
     record {
       cells = sym (
-        ap (λ k. take from before ++ take k (in_rows nx cells (more + 1))) wide
-        ∙ ap (λ xs. take from before ++ take (length cells) xs) (in_rows-first nx cells more)
-        ∙ ap (λ xs. take from before ++ xs) (take-append_seam cells (map (λ s. s + nx) (in_rows nx cells more)))
-        ∙ take-append-drop from before);
+          ap (λ k. take from before ++ take k (in_rows nx cells (more + 1))) wide
+          ∙ ap (λ xs. take from before ++ take (length cells) xs) (in_rows-first nx cells more)
+          ∙ ap (λ xs. take from before ++ xs) (take-append_seam cells (map (λ s. s + nx) (in_rows nx cells more)))
+          ∙ take-append-drop from before);
     }
 
 -- what is read for a copy
@@ -381,12 +381,12 @@ copied-more nx from more k x before now after place copied inside read write =
     let value = ap (λ s. s + nx) read ∙ copied-value nx from more k before now place copied inside in
     record {
       cells =
-        write
-        ∙ ap (λ xs. xs ++ (x + nx) ∷ []) copied.cells
-        ∙ append_assoc (take from before) (take (w + k) full) ((x + nx) ∷ [])
-        ∙ ap (λ s. take from before ++ (take (w + k) full ++ s ∷ [])) value
-        ∙ ap (λ xs. take from before ++ xs) (sym (take_more full (w + k) 0 (omega arith)))
-        ∙ ap (λ n. take from before ++ take n full) (sym next);
+          write
+          ∙ ap (λ xs. xs ++ (x + nx) ∷ []) copied.cells
+          ∙ append_assoc (take from before) (take (w + k) full) ((x + nx) ∷ [])
+          ∙ ap (λ s. take from before ++ (take (w + k) full ++ s ∷ [])) value
+          ∙ ap (λ xs. take from before ++ xs) (sym (take_more full (w + k) 0 (omega arith)))
+          ∙ ap (λ n. take from before ++ take n full) (sym next);
     }
 
 -- all are copied
@@ -456,10 +456,10 @@ down-more test nx columns rows row limit next before now after down is_limit ali
     record {
       passing = record { started = omega arith; within = omega arith };
       cells =
-        more
-        ∙ ap (λ xs. xs ++ added) down.cells
-        ∙ append_assoc before so_far added
-        ∙ ap (λ xs. before ++ xs) (sym (rows-more test nx columns rows.start row next started (omega arith)));
+          more
+          ∙ ap (λ xs. xs ++ added) down.cells
+          ∙ append_assoc before so_far added
+          ∙ ap (λ xs. before ++ xs) (sym (rows-more test nx columns rows.start row next started (omega arith)));
     }
 
 -- it is done
@@ -500,11 +500,11 @@ rows_counted-more test nx columns rows row limit next total one after counted wi
     record {
       passing = record { started = omega arith; within = omega arith };
       count =
-        more
-        ∙ ap (λ k. total + (next - row) * k) is_one
-        ∙ ap (λ k. total + k) added_long
-        ∙ ap (λ k. k + length added) counted.count
-        ∙ sym joined;
+          more
+          ∙ ap (λ k. total + (next - row) * k) is_one
+          ∙ ap (λ k. total + k) added_long
+          ∙ ap (λ k. k + length added) counted.count
+          ∙ sym joined;
     }
 
 -- it is done
@@ -543,13 +543,14 @@ row-fits test grid columns row rows is_grid within some below =
     let split : (row + rows) * grid.nx ≡ row * grid.nx + grid.nx + (rows - 1) * grid.nx = rows_split row rows grid.nx some in
     let turned : grid.ny * grid.nx ≡ grid.nx * grid.ny = mul_comm grid.ny grid.nx in
     All-filter test P (range_with_len (cell_in grid.nx row columns.start) columns.length)
-      (All-range P (cell_in grid.nx row columns.start) columns.length (λ s from to. omega arith))
+    (All-range P (cell_in grid.nx row columns.start) columns.length (λ s from to. omega arith))
 
 -- what is appended to numbers, and where it begins
 pub appended : (n : ℕ) (before now added : List ℕ) → n ≡ length before → now ≡ before ++ added → (take n now ≡ before) × (drop n now ≡ added)
-appended n before now added is more =
-    (ap (λ k. take k now) is ∙ ap (take (length before)) more ∙ take-append_seam before added,
-     ap (λ k. drop k now) is ∙ ap (drop (length before)) more ∙ drop-append_seam before added)
+appended n before now added is more = (
+  ap (λ k. take k now) is ∙ ap (take (length before)) more ∙ take-append_seam before added,
+  ap (λ k. drop k now) is ∙ ap (drop (length before)) more ∙ drop-append_seam before added,
+)
 
 -- a row, copied down the rows that are like it
 pub alike-copied : (test : ℕ → Bool) (nx : ℕ) (columns : Block) (row rows n : ℕ) (before now after : List ℕ) → n ≡ length before → columns.start + columns.length ≤ nx → 1 ≤ rows → AreRowsAlike test nx row (row + rows) → now ≡ before ++ needed_in_row test nx columns row → after ≡ take n now ++ in_rows nx (drop n now) (rows - 1 + 1) → after ≡ before ++ needed_in_rows test nx columns row rows

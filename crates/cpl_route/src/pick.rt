@@ -178,7 +178,12 @@ impl Sharing for Pick<'_> {
 
     fn push(&self, from: u8, place: usize, out: &mut Vec<u32>) -> Result<(), Memory> {
         let listed = self.listed(place);
-        push_cells(&listed, listed.grid.nx, self.owners.part(self.src, from), out)?;
+        push_cells(
+            &listed,
+            listed.grid.nx,
+            self.owners.part(self.src, from),
+            out,
+        )?;
         Ok(())
     }
 

@@ -55,11 +55,7 @@ fn needers(decomp: &Decomp, offsets: &[(i8, i8)], s: u32) -> u64
 }
 
 /// What a halo sends, by sender, receiver and cell.
-pub fn plain_halo(
-    alloc: Global,
-    decomp: &Decomp,
-    offsets: &[(i8, i8)],
-) -> Result<Vec<Sent>, Memory>
+pub fn plain_halo(alloc: Global, decomp: &Decomp, offsets: &[(i8, i8)]) -> Result<Vec<Sent>, Memory>
     requires { AreOffsets offsets.now }
 {
     let mut needed = Vec::new(alloc);

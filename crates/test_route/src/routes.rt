@@ -145,7 +145,14 @@ fn worked_redistributions(rt: HostRuntime) -> Result<(), Fail> {
     let six = divided(6, 1, false, 2, 1, 0)?;
     let three_by_two = divided(3, 2, false, 3, 1, 0)?;
     let route = Route::redist(alloc, &six, &three_by_two)?;
-    let want = [(0, 0, 1), (0, 1, 2), (0, 2, 3), (1, 0, 4), (1, 1, 5), (1, 2, 6)];
+    let want = [
+        (0, 0, 1),
+        (0, 1, 2),
+        (0, 2, 3),
+        (1, 0, 4),
+        (1, 1, 5),
+        (1, 2, 6),
+    ];
     compare(&rt, alloc, &route, want.as_slice())?;
     let differs = Route::redist(alloc, &five, &six).err();
     assert_eq!(rt; differs, Some(RouteFault::SizeDiffers { src: 5, dst: 6 }));
@@ -157,7 +164,12 @@ fn worked_halos(rt: HostRuntime) -> Result<(), Fail> {
     let alloc = rt.alloc();
     let ring = divided(3, 1, true, 3, 1, 0)?;
     let route = Route::halo(alloc, &ring, &[(1, 0), (-2, 0)])?;
-    compare(&rt, alloc, &route, [(0, 2, 1), (1, 0, 2), (2, 1, 3)].as_slice())?;
+    compare(
+        &rt,
+        alloc,
+        &route,
+        [(0, 2, 1), (1, 0, 2), (2, 1, 3)].as_slice(),
+    )?;
     let alone = divided(3, 1, true, 1, 1, 5)?;
     let route = Route::halo(alloc, &alone, &[(1, 0)])?;
     compare(&rt, alloc, &route, [].as_slice())?;

@@ -8,7 +8,7 @@ use Rattle.cpl_route.proofs.route.pick_ascending.Goals as goal
 pub route_with-requires-clause-ranked : goal.route_with-requires-clause-ranked
 route_with-requires-clause-ranked c =
     rw (legs-all _ _ _ c.in_ok-table.ensures)
-      (route-ranked c.pick_of-pick.result.src.now _ (pickers_of c.pick_of-pick.result.needs.now) (pickers-rising c.pick_of-pick.result.needs.now) (pickers-bytes c.pick_of-pick.result.needs.now))
+    (route-ranked c.pick_of-pick.result.src.now _ (pickers_of c.pick_of-pick.result.needs.now) (pickers-rising c.pick_of-pick.result.needs.now) (pickers-bytes c.pick_of-pick.result.needs.now))
 
 pub returns : goal.returns
 returns c =

@@ -9,8 +9,8 @@ returns-in_default c = copies-pass c.args.needs.now c.args.copies.now.items c.ar
 pub returns : goal.returns
 returns c =
     rw c.in_ok-push.ensures.items
-      (copies-push c.args.needs.now c.args.copies.now.items c.args.pet c.in-Some.place c.in_ok-copy.copy c.index-needs-place.result c.requires.copies c.requires.distinct
-        c.in-Some.ensures.inside (c.in-Some.ensures.is_pet c.index-needs-place.result)
-        (c.in_ok-copy.ensures.pet ∙ ap (λ need. need.pet) c.index-needs-place.is ∙ c.in-Some.ensures.is_pet c.index-needs-place.result)
-        (omega arith) c.in_ok-copy.ensures.ascending
-        (λ s. c.in_ok-copy.ensures.same s ∙ ap (λ need. is_listed need.cells s) c.index-needs-place.is))
+    (copies-push c.args.needs.now c.args.copies.now.items c.args.pet c.in-Some.place c.in_ok-copy.copy c.index-needs-place.result c.requires.copies c.requires.distinct
+    c.in-Some.ensures.inside (c.in-Some.ensures.is_pet c.index-needs-place.result)
+    (c.in_ok-copy.ensures.pet ∙ ap (λ need. need.pet) c.index-needs-place.is ∙ c.in-Some.ensures.is_pet c.index-needs-place.result)
+    (omega arith) c.in_ok-copy.ensures.ascending
+    (λ s. c.in_ok-copy.ensures.same s ∙ ap (λ need. is_listed need.cells s) c.index-needs-place.is))

@@ -13,7 +13,7 @@ returns g c =
     let from_byte : c.args.from < 256 = omega arith in
     let to_byte : to < 256 = subst (λ k. k < 256) c.receiver.ensures c.receiver.type_inv in
     let is_span : span ≡ record { from = c.args.from; to = to; start = length c.args.cells.now.items; end = length c.push.new.out.items } =
-      λ i. record { from = c.args.from; to = c.receiver.ensures i; start = start i; end = end i } in
+    λ i. record { from = c.args.from; to = c.receiver.ensures i; start = start i; end = end i } in
     legs-add c.args.spans.now.items c.args.cells.now.items c.args.from to
-      (shared_cells (g.S.Sharing.src c.args.sharing.now) (g.S.Sharing.is_needed c.args.sharing.now) c.args.from to)
-      c.push.new.out.items span c.note_span.new.spans.items c.requires.table from_byte to_byte c.in_ok-push.ensures is_span c.in_ok-note_span.ensures
+    (shared_cells (g.S.Sharing.src c.args.sharing.now) (g.S.Sharing.is_needed c.args.sharing.now) c.args.from to)
+    c.push.new.out.items span c.note_span.new.spans.items c.requires.table from_byte to_byte c.in_ok-push.ensures is_span c.in_ok-note_span.ensures

@@ -9,8 +9,8 @@ loop-from-preserved g c =
     let first = c.senders-first.ensures.first in
     let started = c.loop-from.auto.from in
     senders-more (g.S.Sharing.src c.args.sharing.now) (g.S.Sharing.is_needed c.args.sharing.now) (g.S.Sharing.receivers c.args.sharing.now)
-      c.loop-from.from c.loop-from.total c.total_from-total.result c.loop-from.invariant (omega arith)
-      c.total_from-total.ensures.value c.total_from-total.ensures.few
+    c.loop-from.from c.loop-from.total c.total_from-total.result c.loop-from.invariant (omega arith)
+    c.total_from-total.ensures.value c.total_from-total.ensures.few
 
 pub returns-clause-value : goal.returns-clause-value
 returns-clause-value g c =

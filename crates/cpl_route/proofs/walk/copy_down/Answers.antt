@@ -43,11 +43,11 @@ loop-k-preserved c =
     let some = pos-of_mul (length c.args.out.now.items - c.args.from) c.args.more c.loop-k.k inside in
     let read = c.index-cell.ensures ∙ get_or_default_zero c.loop-k.out.items (c.args.from + c.loop-k.k) c.index-cell.result.now (omega arith) in
     copied-more c.args.nx c.args.from c.args.more c.loop-k.k c.index-cell.result.now c.args.out.now.items c.loop-k.out.items c.push.new.self.items
-      c.requires.place c.loop-k.invariant inside read c.in_ok-push.ensures.items
+    c.requires.place c.loop-k.invariant inside read c.in_ok-push.ensures.items
 
 pub returns : goal.returns
 returns c =
     let long : c.len.result ≡ length c.args.out.now.items = search rules in
     let all : c.loop-k.k ≡ c.args.more * (c.len.result - c.args.from) = omega arith in
     copied-all c.args.nx c.args.from c.args.more c.loop-k.k c.args.out.now.items c.loop-k.out.items c.requires.place c.loop-k.invariant
-      (all ∙ copies-turned c.args.more c.len.result _ c.args.from long)
+    (all ∙ copies-turned c.args.more c.len.result _ c.args.from long)

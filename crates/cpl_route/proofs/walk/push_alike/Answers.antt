@@ -25,5 +25,5 @@ pub returns : goal.returns
 returns g c =
     let before : c.len-before.result ≡ length c.args.out.now.items = search rules in
     alike-copied (g.N.Needs.is_needed c.args.needs.now) c.args.nx c.args.columns c.args.row c.args.rows c.len-before.result
-      c.args.out.now.items c.push_row.new.out.items c.copy_down.new.out.items before c.requires.within c.requires.some c.requires.alike
-      c.in_ok-push_row.ensures c.in_ok-copy_down.ensures
+    c.args.out.now.items c.push_row.new.out.items c.copy_down.new.out.items before c.requires.within c.requires.some c.requires.alike
+    c.in_ok-push_row.ensures c.in_ok-copy_down.ensures

@@ -14,7 +14,7 @@ pub in_row-found-requires-clause-row : goal.in_row-found-requires-clause-row
 in_row-found-requires-clause-row c =
     let some = c.requires.sound.layout.grid.columns in
     rw c.grid-width.ensures.value (row-elsewhere c.args.self.now.grid.nx c.args.self.now.grid.ny c.args.row c.args.column c.args.limit
-      c.args.self.now.dst.now.grid.nx c.args.self.now.dst.now.grid.ny c.requires.row c.requires.column c.requires.limit c.requires.sound.cells some)
+    c.args.self.now.dst.now.grid.nx c.args.self.now.dst.now.grid.ny c.requires.row c.requires.column c.requires.limit c.requires.sound.cells some)
 
 pub returns : goal.returns
 returns c =
@@ -24,4 +24,4 @@ returns c =
     let least = c.min.ensures in
     let is_width = ap (λ g. g.nx) c.grid-width.ensures.value in
     stretch-elsewhere _ c.args.self.now.grid.nx c.args.row c.args.column c.args.limit _ width (place / width) (place % width) c.min.result
-      c.in_row-found.result is_width same (omega arith) c.requires.column c.in_row-found.ensures
+    c.in_row-found.result is_width same (omega arith) c.requires.column c.in_row-found.ensures

@@ -17,4 +17,4 @@ returns-clause-value c =
     let place = c.requires.place in
     c.count_cells.ensures.value
     ∙ ap length (shared-listed c.args.self.now.src.now c.args.self.now.needs.now c.args.from c.args.place no_need c.part.result c.listed-listed.result.grid c.listed-listed.result.cells.now
-      c.part.ensures.is_part c.requires.sound.ascending (omega (arith, pickers-count c.args.self.now.needs.now c.requires.sound.ascending)) c.listed-listed.ensures.grid (c.listed-listed.ensures.cells no_need))
+    c.part.ensures.is_part c.requires.sound.ascending (omega (arith, pickers-count c.args.self.now.needs.now c.requires.sound.ascending)) c.listed-listed.ensures.grid (c.listed-listed.ensures.cells no_need))

@@ -17,4 +17,4 @@ returns c =
     let place = c.requires.place in
     c.in_ok-push_cells.ensures
     ∙ ap (λ xs. c.args.out.now.items ++ xs) (shared-listed c.args.self.now.src.now c.args.self.now.needs.now c.args.from c.args.place no_need c.part.result c.listed-listed.result.grid c.listed-listed.result.cells.now
-      c.part.ensures.is_part c.requires.sound.ascending (omega (arith, pickers-count c.args.self.now.needs.now c.requires.sound.ascending)) c.listed-listed.ensures.grid (c.listed-listed.ensures.cells no_need))
+    c.part.ensures.is_part c.requires.sound.ascending (omega (arith, pickers-count c.args.self.now.needs.now c.requires.sound.ascending)) c.listed-listed.ensures.grid (c.listed-listed.ensures.cells no_need))

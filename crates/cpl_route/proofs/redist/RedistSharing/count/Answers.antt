@@ -6,4 +6,4 @@ pub returns-clause-value : goal.returns-clause-value
 returns-clause-value c =
     c.count_cells.ensures.value
     ∙ ap length (shared-owned c.args.self.now.src.now c.args.self.now.dst.now c.args.from _ c.part.result c.needs-needs.result.dst.now c.needs-needs.result.to c.needs-needs.result.grid
-      c.part.ensures.is_part c.needs-needs.ensures.dst c.needs-needs.ensures.to c.needs-needs.ensures.grid)
+    c.part.ensures.is_part c.needs-needs.ensures.dst c.needs-needs.ensures.to c.needs-needs.ensures.grid)

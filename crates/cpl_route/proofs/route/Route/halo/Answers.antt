@@ -15,7 +15,7 @@ pub route_with-requires-clause-ranked : goal.route_with-requires-clause-ranked
 route_with-requires-clause-ranked c =
     let layout = c.pets.ensures.layout in
     rw (legs-all _ _ _ c.in_ok-table.ensures, c.halo_of-halo.ensures.decomp)
-      (route-ranked c.args.decomp.now _ (pets_of c.args.decomp.now) (pets-rising c.args.decomp.now) (pets-bytes c.args.decomp.now layout))
+    (route-ranked c.args.decomp.now _ (pets_of c.args.decomp.now) (pets-rising c.args.decomp.now) (pets-bytes c.args.decomp.now layout))
 
 pub returns : goal.returns
 returns c =

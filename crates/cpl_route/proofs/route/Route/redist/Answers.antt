@@ -20,5 +20,5 @@ returns c =
     let same : cells_in c.args.src.now.grid ≡ cells_in c.args.dst.now.grid = sym have ∙ c.if-have-want.false ∙ want in
     let legs = legs-all _ _ _ c.in_ok-table.ensures in
     let route : c.in_ok-route.route ≡ redist_route c.args.src.now c.args.dst.now =
-      c.in_ok-route.ensures ∙ legs ∙ (λ i. redist_route (c.redist_between-redist.ensures.src i) (c.redist_between-redist.ensures.dst i)) in
+    c.in_ok-route.ensures ∙ legs ∙ (λ i. redist_route (c.redist_between-redist.ensures.src i) (c.redist_between-redist.ensures.dst i)) in
     record { value = answer-ok c.args.src.now c.args.dst.now same ∙ ap Ok (sym route); fault = tt }
