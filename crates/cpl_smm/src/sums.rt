@@ -1,0 +1,66 @@
+//! Weighted sums of values, exact, and rounded once.
+
+ghost use Rattle.std.specs.Prelude.{◌≡◌, ◌^◌, ◌≤◌, ◌*◌, ◌*ℤ◌, pos, All, length, unsigned_abs};
+ghost use Rattle.cpl_base.specs.Numbers.{IsValue, clip};
+ghost use Rattle.cpl_base.specs.Rounding.{near_of};
+ghost use Rattle.cpl_smm.specs.Records.{IsWeight};
+ghost use Rattle.cpl_smm.specs.Sums.{billion, image_of, row_sum};
+
+/// A weight of one has so many billionths.
+const BILLION: u64 = 1_000_000_000;
+
+/// The greatest value, times a billion: sums past it are brought to it, and make the greatest value.
+const MOST: i128 = 1_000_000_000_000_000_000_000_000;
+
+/// A number of billions above the greatest value.
+const SHIFT: i64 = 1_125_899_906_842_624;
+
+/// Half a billion, and `SHIFT` billions.
+const LIFT: i128 = 1_125_899_906_842_624_000_500_000_000;
+
+/// A billion is this times 512.
+const ODD: u64 = 1_953_125;
+
+/// What a row makes of the values of its source cells, which stand in its order: the exact sum of weight times
+/// value, rounded once to the nearest whole millionth, a half goes up, and brought into the range of values. There
+/// are at most 2^20 entries. Takes no memory.
+///
+/// Source: ESMF Reference Manual, sparse matrix multiplication; ranges and rounding are this project's own.
+pub fn apply_row(row: &[(u32, i64)], values: &[i64]) -> i64
+    requires few { length row.now ≤ 2 ^ 20 }
+    requires weights { All (λ entry. IsWeight entry.1) row.now }
+    requires values { All IsValue values.now }
+    requires count { length values.now ≡ length row.now }
+    ensures value { result ≡ image_of row.now values.now }
+    ensures within { IsValue result }
+{
+    let mut sum = 0i128;
+    for k in 0..row.len() {
+        sum += product(row[k].1, values[k]);
+    }
+    rounded(sum)
+}
+
+/// A weight times a value.
+#[inline(always)]
+fn product(weight: i64, value: i64) -> i128
+    requires weight { IsWeight weight }
+    requires value { IsValue value }
+    ensures value { result ≡ weight *ℤ value }
+    ensures within { unsigned_abs result ≤ 10 ^ 27 }
+{
+    i128::from(weight) * i128::from(value)
+}
+
+/// A sum in billionths, rounded to the nearest, as the nearest value. Two divisions of 64 bits by a constant.
+#[inline(always)]
+fn rounded(sum: i128) -> i64
+    ensures value { result ≡ clip (near_of sum (pos billion)) }
+    ensures within { IsValue result }
+{
+    let lifted = (sum.clamp(-MOST, MOST) + LIFT) as u128;
+    let upper = (lifted >> 41) as u64;
+    let lower = ((lifted >> 9) & 0xffff_ffff) as u64;
+    let quotient = upper / ODD * 0x1_0000_0000 + ((upper % ODD) * 0x1_0000_0000 + lower) / ODD;
+    quotient as i64 - SHIFT
+}
