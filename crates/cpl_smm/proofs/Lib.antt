@@ -1,0 +1,2 @@
+mod ReaderFacts
+mod RecordFacts

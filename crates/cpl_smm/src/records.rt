@@ -35,6 +35,7 @@ pub(crate) struct Fields {
 }
 
 /// The factor that the record of this number says, or why it says none.
+#[tactic(auto, unfolding(crate::specs::Records::record_factor))]
 pub(crate) fn kept_factor(
     src_cells: u32,
     dst_cells: u32,

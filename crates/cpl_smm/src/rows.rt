@@ -35,11 +35,12 @@ fn past(factors: &[KeptFactor], from: usize, dst: u64) -> usize
     ensures value { result ≡ from + count_upto dst (drop from factors.now) }
     ensures within { result ≤ length factors.now }
 {
-    let mut place = from;
-    while place < factors.len() && factors[place].pair / WIDE <= dst {
-        place += 1;
+    for place in from..factors.len() {
+        if factors[place].pair / WIDE > dst {
+            return place;
+        }
     }
-    place
+    factors.len()
 }
 
 /// The source cells and the weights of factors.

@@ -47,7 +47,7 @@ fn product(weight: i64, value: i64) -> i128
     requires weight { IsWeight weight }
     requires value { IsValue value }
     ensures value { result ≡ weight *ℤ value }
-    ensures within { unsigned_abs result ≤ 10 ^ 27 }
+    ensures within { unsigned_abs result ≤ 1000000000000000000000000000 }
 {
     i128::from(weight) * i128::from(value)
 }
