@@ -1,2 +1,7 @@
+mod CountFacts
+mod KeptFacts
+mod MarkFacts
+mod NeedFacts
 mod ReaderFacts
 mod RecordFacts
+mod SumFacts

@@ -7,6 +7,7 @@ use Rattle.csv.specs.declared.parser.Config.{Config}
 use Rattle.csv.specs.declared.parser.State.{State}
 use Rattle.csv.specs.declared.parser.State.TheVariants as st
 use Rattle.csv.specs.declared.reader.Reader.{Reader}
+use Rattle.csv.specs.declared.reader.Trim.TheVariants as trim
 use Rattle.csv.proofs.ReadFacts.{rows-end, rows-more}
 use Rattle.cpl_smm.specs.Kept.{GaveRecord, IsReading, ReadsOn, records_in, records_left, unread}
 
@@ -81,15 +82,15 @@ records_from-none s xs none = rw add-one (ap (records_next (records_from default
 
 -- what a reader's next record leaves
 pub reads_on : (a b : Reader (Bor (List ℕ))) (found : Bool) (fields : List (List ℕ)) → IsReading a
-    → (reader_trim a ≡ reader_trim a → Ready a → ReadRecord (λ (s : Bor (List ℕ)). Some s.now) a b found fields) → Ready b → ReadsOn a b fields found
+    → (reader_trim a ≡ trim.None → Ready a → ReadRecord (λ (s : Bor (List ℕ)). Some s.now) a b found fields) → Ready b → ReadsOn a b fields found
 unfolding Reached
 reads_on a b true fields reading reads ready =
-    let read = reads refl reading.ready in
+    let read = reads reading.trim reading.ready in
     let (z, known, reached) = rows-more (λ (s : Bor (List ℕ)). Some s.now) a b fields default_config a.state reading.bytes reading.bytes [] reading.config reading.known (refl, refl) read in
     record {
       reading = record { config = read.2 ∙ reading.config; trim = read.3 ∙ reading.trim; ready = ready; bytes = z; known = known };
       left = ap (records_in a.state) reading.known ∙ records_from-next a.state b.state reading.bytes z fields reached ∙ ap (λ rs. fields ∷ rs) (sym (ap (records_in b.state) known));
     }
 reads_on a b false fields reading reads ready =
-    let none = rows-end (λ (s : Bor (List ℕ)). Some s.now) a b fields default_config reading.bytes reading.config reading.known (reads refl reading.ready) in
+    let none = rows-end (λ (s : Bor (List ℕ)). Some s.now) a b fields default_config reading.bytes reading.config reading.known (reads reading.trim reading.ready) in
     ap (records_in a.state) reading.known ∙ records_from-none a.state reading.bytes none

@@ -1,14 +1,14 @@
 -- The code's own: factors as they are kept while a file is read, what the reader has still to give, and how rows are kept.
-use Rattle.std.specs.Prelude.{◌≡◌, ℕ, ◌+◌, ◌-◌, ◌*◌, ◌/◌, ◌%◌, ◌<◌, ◌≤◌, nat_le, take_while, filter, Bool, ◌==◌, if◌then◌else◌, min, List, [], ◌∷◌, ◌++◌, All, map, length, take, drop, slice_index, slice_index_or, Option, Some, None, Result, Ok, Err, IsSome, true, false}
+use Rattle.std.specs.Prelude.{◌≡◌, ℕ, ◌+◌, ◌-◌, ◌*◌, ◌/◌, ◌%◌, ◌<◌, ◌≤◌, nat_le, filter, suc, Bool, ◌==◌, if◌then◌else◌, min, List, [], ◌∷◌, ◌++◌, All, map, length, take, drop, slice_index, slice_index_or, Option, Some, None, Result, Ok, Err, IsSome, true, false}
 use Rattle.std.specs.Borrow.{Bor}
-use Rattle.std.specs.List.{list_any, range_with_len}
+use Rattle.std.specs.List.{range_with_len}
 use Rattle.csv.specs.Reading.{Ready, default_config, reader_config, reader_state, reader_trim, records_from, source_of}
 use Rattle.csv.specs.declared.parser.State.{State}
 use Rattle.csv.specs.declared.reader.Reader.{Reader}
 use Rattle.csv.specs.declared.reader.Trim.TheVariants as trim
 use Rattle.cpl_smm.specs.Files.{records_of}
 use Rattle.cpl_smm.specs.Records.{Factor, IsWeight, most_records, record_factor}
-use Rattle.cpl_smm.specs.Rows.{Entry, IsRow, Table, is_pair}
+use Rattle.cpl_smm.specs.Rows.{Entry, IsRow, Table}
 use Rattle.cpl_smm.specs.declared.entries.KeptFactor.{KeptFactor}
 use Rattle.cpl_smm.specs.declared.fault.WeightFault.{WeightFault}
 use Rattle.cpl_smm.specs.declared.weights.Weights.TheInside.{Inside}
@@ -38,20 +38,19 @@ pub record Judged : Type 0 where
   pub factors : List Factor
   pub fault : Option WeightFault
 
--- goes on with a factor; stops at a fault
-abbrev pub judged_behind : List Factor → (Factor → Judged) → Result Factor WeightFault → Judged
-judged_behind before more (Ok factor) = more factor
-judged_behind before more (Err fault) = record { factors = before; fault = Some fault }
+-- a factor in front of others; a fault ends them
+abbrev pub judged_step : Result Factor WeightFault → Judged → Judged
+judged_step (Ok factor) more = record { factors = factor ∷ more.factors; fault = more.fault }
+judged_step (Err fault) more = record { factors = []; fault = Some fault }
 
--- these factors and those of further records
-abbrev pub judged_with : ℕ → ℕ → List Factor → List (List (List ℕ)) → Judged
-judged_with src_cells dst_cells before [] = record { factors = before; fault = None }
-judged_with src_cells dst_cells before (fields ∷ more) =
-    judged_behind before (λ factor. judged_with src_cells dst_cells (before ++ factor ∷ []) more) (record_factor src_cells dst_cells (length before + 1) fields)
+-- the factors of records that follow one another from this number on
+abbrev pub judged_from : ℕ → ℕ → ℕ → List (List (List ℕ)) → Judged
+judged_from src_cells dst_cells n [] = record { factors = []; fault = None }
+judged_from src_cells dst_cells n (fields ∷ more) = judged_step (record_factor src_cells dst_cells n fields) (judged_from src_cells dst_cells (n + 1) more)
 
 -- the factors of a text
 abbrev pub judged_of : ℕ → ℕ → List ℕ → Judged
-judged_of src_cells dst_cells bytes = judged_with src_cells dst_cells [] (records_of bytes)
+judged_of src_cells dst_cells bytes = judged_from src_cells dst_cells 1 (records_of bytes)
 
 -- the bytes that a reader has left
 abbrev pub unread : Reader (Bor (List ℕ)) → Option (List ℕ)
@@ -130,7 +129,8 @@ is_upto dst factor = nat_le (dst_of factor) dst
 
 -- how many of the first factors have at most this destination cell
 abbrev pub count_upto : ℕ → List KeptFactor → ℕ
-count_upto dst factors = length (take_while (is_upto dst) factors)
+count_upto dst [] = 0
+count_upto dst (factor ∷ factors) = if is_upto dst factor then suc (count_upto dst factors) else 0
 
 -- the numbers of pairs ascend, from above this one
 unfoldable pub Ascends : ℕ → List KeptFactor → Type 0

@@ -113,8 +113,8 @@ fn reads_on(reader: &mut Reader<&[u8]>, record: &mut ByteRecord) -> Result<bool,
     ensures ok { IfOk result (ReadsOn reader.old reader.new (fields_of record.new)) }
     ensures err { IfErr result (λ fault. fault ≡ WeightFault.Memory) }
 {
-    match reader.read_byte_record(record) {
-        Ok(found) => Ok(found),
-        Err(_) => Err(WeightFault::Memory),
-    }
+    let Ok(found) = reader.read_byte_record(record) else {
+        return Err(WeightFault::Memory);
+    };
+    Ok(found)
 }

@@ -1,8 +1,8 @@
 //! What is kept of sorted factors: where each row begins, and the entries of all rows.
 
-ghost use Rattle.std.specs.Prelude.{◌≡◌, ◌+◌, ◌≤◌, IfOk, drop, length, map};
+ghost use Rattle.std.specs.Prelude.{◌≡◌, ◌+◌, ◌<◌, ◌≤◌, IfOk, drop, length, map, slice_index};
 ghost use Rattle.std.specs.List.{range_with_len};
-ghost use Rattle.cpl_smm.specs.Kept.{count_upto, entry_of};
+ghost use Rattle.cpl_smm.specs.Kept.{count_upto, entry_of, row_between};
 ghost use Rattle.cpl_smm.specs.Records.{most_records};
 
 use crate::entries::KeptFactor;
@@ -52,4 +52,28 @@ pub(crate) fn entries_of(alloc: Global, factors: &[KeptFactor]) -> Result<Vec<(u
         entries.push(((factor.pair % WIDE) as u32, factor.weight))?;
     }
     Ok(entries)
+}
+
+/// The entries from one start to the next.
+#[inline]
+pub(crate) fn row_between<'a>(
+    starts: &[u32],
+    entries: &'a [(u32, i64)],
+    k: usize,
+) -> &'a [(u32, i64)]
+    requires place { k + 1 < length starts.now }
+    requires ascending { slice_index starts.now k ≤ slice_index starts.now (k + 1) }
+    requires within { slice_index starts.now (k + 1) ≤ length entries.now }
+    ensures { result.now ≡ row_between starts.now entries.entry.now k }
+{
+    &entries[start_at(starts, k)..start_at(starts, k + 1)]
+}
+
+/// A start.
+#[inline]
+fn start_at(starts: &[u32], k: usize) -> usize
+    requires { k < length starts.now }
+    ensures { result ≡ slice_index starts.now k }
+{
+    starts[k] as usize
 }

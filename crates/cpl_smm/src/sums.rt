@@ -1,6 +1,6 @@
 //! Weighted sums of values, exact, and rounded once.
 
-ghost use Rattle.std.specs.Prelude.{◌≡◌, ◌^◌, ◌≤◌, ◌*◌, ◌*ℤ◌, pos, All, length, unsigned_abs};
+ghost use Rattle.std.specs.Prelude.{◌≡◌, ◌^◌, ◌<◌, ◌≤◌, ◌/◌, ◌*ℤ◌, pos, All, length, unsigned_abs};
 ghost use Rattle.cpl_base.specs.Numbers.{IsValue, clip};
 ghost use Rattle.cpl_base.specs.Rounding.{near_of};
 ghost use Rattle.cpl_smm.specs.Records.{IsWeight};
@@ -16,7 +16,7 @@ const MOST: i128 = 1_000_000_000_000_000_000_000_000;
 const SHIFT: i64 = 1_125_899_906_842_624;
 
 /// Half a billion, and `SHIFT` billions.
-const LIFT: i128 = 1_125_899_906_842_624_000_500_000_000;
+const LIFT: i128 = 1_125_899_906_842_624_500_000_000;
 
 /// A billion is this times 512.
 const ODD: u64 = 1_953_125;
@@ -52,15 +52,33 @@ fn product(weight: i64, value: i64) -> i128
     i128::from(weight) * i128::from(value)
 }
 
-/// A sum in billionths, rounded to the nearest, as the nearest value. Two divisions of 64 bits by a constant.
+/// A sum in billionths, rounded to the nearest, as the nearest value.
 #[inline(always)]
 fn rounded(sum: i128) -> i64
     ensures value { result ≡ clip (near_of sum (pos billion)) }
     ensures within { IsValue result }
 {
-    let lifted = (sum.clamp(-MOST, MOST) + LIFT) as u128;
-    let upper = (lifted >> 41) as u64;
-    let lower = ((lifted >> 9) & 0xffff_ffff) as u64;
-    let quotient = upper / ODD * 0x1_0000_0000 + ((upper % ODD) * 0x1_0000_0000 + lower) / ODD;
-    quotient as i64 - SHIFT
+    nearest(sum.clamp(-MOST, MOST))
+}
+
+/// A sum in billionths that is no greater than the greatest value is, rounded to the nearest. What is divided isn't
+/// below 0 once it is lifted by whole billions.
+#[inline(always)]
+fn nearest(sum: i128) -> i64
+    requires { unsigned_abs sum ≤ 1000000000000000000000000 }
+    ensures value { result ≡ near_of sum (pos billion) }
+    ensures within { IsValue result }
+{
+    whole_billions((sum + LIFT) as u128) as i64 - SHIFT
+}
+
+/// How often a billion goes into a number. Two divisions of 64 bits by a constant.
+#[inline(always)]
+fn whole_billions(number: u128) -> u64
+    requires { number < 2400000000000000000000000 }
+    ensures { result ≡ number / 1000000000 }
+{
+    let upper = (number >> 41) as u64;
+    let lower = ((number >> 9) & 0xffff_ffff) as u64;
+    upper / ODD * 0x1_0000_0000 + ((upper % ODD) * 0x1_0000_0000 + lower) / ODD
 }

@@ -2,7 +2,7 @@
 
 use crate::entries::KeptFactor;
 use crate::marks::{mark_sources, marked_cells};
-use crate::rows::{entries_of, starts_of};
+use crate::rows::{entries_of, row_between, starts_of};
 use cpl_base::{Many, Memory};
 use cpl_grid::Decomp;
 use cpl_route::Need;
@@ -73,9 +73,11 @@ impl Weights {
         ensures value { result.now ≡ row_at self.now dst }
         ensures row { IsRow self.now.src_cells result.now }
     {
-        let from = self.starts[dst as usize - 1] as usize;
-        let to = self.starts[dst as usize] as usize;
-        &self.entries[from..to]
+        row_between(
+            self.starts.as_slice(),
+            self.entries.as_slice(),
+            dst as usize - 1,
+        )
     }
 
     /// How many records the file has, and so how many factors.

@@ -1,7 +1,0 @@
-use Rattle.cpl_smm.proofs.sums.rounded.Goals as goal
-
-pub returns-clause-value : goal.returns-clause-value
-returns-clause-value c = ?
-
-pub returns-clause-within : goal.returns-clause-within
-returns-clause-within c = ?
