@@ -1,6 +1,6 @@
 -- How many of the first factors have at most a destination cell.
 use Rattle.std.proofs.Common.{◌≡◌, ◌∙◌, ℕ, zero, suc, ◌+◌, ◌/◌, ◌≤◌, ◌<◌, true, false, List, [], ◌∷◌, length, drop, refl, sym, ap, inl, inr, arith}
-use Rattle.std.proofs.lemmas.Bool.{cases_lt, le-leb, lt_leb}
+use Rattle.std.proofs.lemmas.Bool.{cases_lt, le-leb, lt-leb}
 use Rattle.cpl_smm.specs.Kept.{count_upto, dst_of, is_upto}
 use Rattle.cpl_smm.specs.declared.entries.KeptFactor.{KeptFactor}
 
@@ -10,7 +10,7 @@ count_upto-here d factor factors upto = rw (le-leb (dst_of factor) d upto) refl
 
 -- a factor above
 pub count_upto-above : (d : ℕ) (factor : KeptFactor) (factors : List KeptFactor) → d < dst_of factor → count_upto d (factor ∷ factors) ≡ 0
-count_upto-above d factor factors above = rw (lt_leb (dst_of factor) d above) refl
+count_upto-above d factor factors above = rw (lt-leb (dst_of factor) d above) refl
 
 -- a count for a cell further on begins with that for one before
 pub count_upto-on : (e d : ℕ) (factors : List KeptFactor) → e ≤ d → count_upto d factors ≡ count_upto e factors + count_upto d (drop (count_upto e factors) factors)

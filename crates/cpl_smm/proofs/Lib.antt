@@ -1,7 +1,11 @@
 mod CountFacts
+mod JudgedFacts
 mod KeptFacts
 mod MarkFacts
+mod MemberFacts
 mod NeedFacts
+mod OrderFacts
 mod ReaderFacts
 mod RecordFacts
+mod RepeatFacts
 mod SumFacts

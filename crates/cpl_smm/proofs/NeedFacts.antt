@@ -17,4 +17,4 @@ take-next (y ∷ xs) (suc k) x there = ap (λ zs. y ∷ zs) (take-next xs k x th
 -- whether a test holds of one of the first, with one member more
 pub list_any-take : (p : ℕ → Bool) (xs : List ℕ) (k x : ℕ) → slice_get xs k ≡ Some x → list_any p (take (k + 1) xs) ≡ (list_any p (take k xs) || p x)
 list_any-take p xs k x there =
-    ap (λ n. list_any p (take n xs)) add-one ∙ ap (list_any p) (take-next xs k x there) ∙ list_any-append p (take k xs) (x ∷ []) ∙ ap (λ b. list_any p (take k xs) || b) (or-false (p x))
+    ap (λ n. list_any p (take n xs)) (add-one k) ∙ ap (list_any p) (take-next xs k x there) ∙ list_any-append p (take k xs) (x ∷ []) ∙ ap (λ b. list_any p (take k xs) || b) (or-false (p x))

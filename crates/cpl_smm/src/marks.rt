@@ -21,7 +21,8 @@ pub(crate) fn mark_sources(marks: &mut Vec<bool>, row: &[(u32, i64)])
 
 /// The cells that are marked, ascending, without the cell 0.
 pub(crate) fn marked_cells(alloc: Global, marks: &[bool]) -> Result<Vec<u32>, Memory>
-    requires { length marks.now ≤ 2 ^ 32 }
+    requires some { 1 ≤ length marks.now }
+    requires few { length marks.now ≤ 2 ^ 32 }
     ensures { IfOk result (λ cells. cells.items ≡ filter (is_marked marks.now) (range_with_len 1 (length marks.now - 1))) }
 {
     let mut cells = Vec::new(alloc);

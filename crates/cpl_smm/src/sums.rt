@@ -36,20 +36,22 @@ pub fn apply_row(row: &[(u32, i64)], values: &[i64]) -> i64
 {
     let mut sum = 0i128;
     for k in 0..row.len() {
-        sum += product(row[k].1, values[k]);
+        let entry = &row[k];
+        let value = &values[k];
+        sum += product(entry, value);
     }
     rounded(sum)
 }
 
-/// A weight times a value.
+/// The weight of an entry times a value.
 #[inline(always)]
-fn product(weight: i64, value: i64) -> i128
-    requires weight { IsWeight weight }
-    requires value { IsValue value }
-    ensures value { result ≡ weight *ℤ value }
+fn product(entry: &(u32, i64), value: &i64) -> i128
+    requires weight { IsWeight entry.now.1 }
+    requires value { IsValue value.now }
+    ensures value { result ≡ entry.now.1 *ℤ value.now }
     ensures within { unsigned_abs result ≤ 1000000000000000000000000000 }
 {
-    i128::from(weight) * i128::from(value)
+    i128::from(entry.1) * i128::from(*value)
 }
 
 /// A sum in billionths, rounded to the nearest, as the nearest value.

@@ -1,4 +1,4 @@
-use Rattle.std.proofs.Common.{◌≡◌, ◌∙◌, ◌-◌, ◌++◌, List, ℕ, ap, arith, filter, length, sym}
+use Rattle.std.proofs.Common.{◌≡◌, ◌∙◌, ◌-◌, ◌++◌, ◌∷◌, [], if◌then◌else◌, List, ℕ, ap, arith, filter, length, sym}
 use Rattle.std.specs.List.{range_with_len}
 use Rattle.cpl_smm.specs.Kept.{is_marked}
 use Rattle.cpl_smm.proofs.MarkFacts.{filter-next}
@@ -6,7 +6,7 @@ use Rattle.cpl_smm.proofs.marks.marked_cells.Goals as goal
 
 pub loop-src-preserved : goal.loop-src-preserved
 loop-src-preserved c =
-    c.in_ok-push_if.ensures ∙ ap (λ (ks : List ℕ). ks ++ _) c.loop-src.invariant ∙ sym (filter-next (is_marked c.args.marks.now) c.loop-src.src c.loop-src.auto.src)
+    c.in_ok-push_if.ensures ∙ ap (λ (ks : List ℕ). ks ++ (if is_marked c.args.marks.now c.loop-src.src then c.loop-src.src ∷ [] else [])) c.loop-src.invariant ∙ sym (filter-next (is_marked c.args.marks.now) c.loop-src.src c.loop-src.auto.src)
 
 pub returns : goal.returns
 returns c =
