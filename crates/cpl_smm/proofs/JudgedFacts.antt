@@ -1,6 +1,6 @@
 -- The factors of records up to the first that is faulty by itself, and what they say of a file.
 use Rattle.std.proofs.Common.{◌≡◌, ◌⊎◌, ◌∙◌, ℕ, zero, suc, ◌+◌, ◌*◌, ◌<◌, ◌≤◌, ◌==◌, ◌&&◌, not, Bool, true, false, if◌then◌else◌, nat_le, List, [], ◌∷◌, ◌++◌, length, Option, Some, None, Result, Ok, Err, refl, sym, ap, subst, inl, inr, arith, append_assoc, ℤ, IfOk}
-use Rattle.std.proofs.lemmas.Bool.{and_parts, cases_Bool, cases_lt, eq-eqb, eqb-true, leb-true}
+use Rattle.std.proofs.lemmas.Bool.{and_parts, cases_Bool, cases_lt, eq-eqb, eqb-true, false≢true, leb-true}
 use Rattle.std.proofs.lemmas.List.{append-nil}
 use Rattle.std.specs.List.{list_any}
 use Rattle.cpl_base.specs.Numerals.{number_word, numeral_of}
@@ -110,33 +110,39 @@ record_factor-ok src_cells dst_cells n fields factor is =
 
 -- ---- all records
 
+-- a factor of one record, or of those behind it
+judged-factor-step : (src_cells dst_cells n : ℕ) (fields : List (List ℕ)) (rest : Judged) (factor : Factor) → (IsIn factor rest.factors → IsFactor src_cells dst_cells factor)
+    → (r : Result Factor WeightFault) → record_factor src_cells dst_cells n fields ≡ r → IsIn factor (judged_step r rest).factors → IsFactor src_cells dst_cells factor
+judged-factor-step src_cells dst_cells n fields rest factor later (Err fault) is here = absurd here
+judged-factor-step src_cells dst_cells n fields rest factor later (Ok first) is (inl same) =
+    let P : Factor → Type 0 = λ factor. IsFactor src_cells dst_cells factor in subst P (sym same) (record_factor-ok src_cells dst_cells n fields first is).0
+judged-factor-step src_cells dst_cells n fields rest factor later (Ok first) is (inr there) = later there
+
 -- the factors are in range
 pub judged-factor : (src_cells dst_cells n : ℕ) (left : List (List (List ℕ))) (factor : Factor) → IsIn factor (judged_from src_cells dst_cells n left).factors
     → IsFactor src_cells dst_cells factor
 judged-factor src_cells dst_cells n [] factor here = absurd here
-judged-factor src_cells dst_cells n (fields ∷ more) factor here = by (record_factor src_cells dst_cells n fields) refl here
-  where
-    rest = judged_from src_cells dst_cells (n + 1) more
-    later = judged-factor src_cells dst_cells (n + 1) more factor
-    by : (r : Result Factor WeightFault) → record_factor src_cells dst_cells n fields ≡ r → IsIn factor (judged_step r rest).factors → IsFactor src_cells dst_cells factor
-    by (Err fault) is here = absurd here
-    by (Ok first) is (inl same) = let P : Factor → Type 0 = λ factor. IsFactor src_cells dst_cells factor in subst P (sym same) (record_factor-ok src_cells dst_cells n fields first is).0
-    by (Ok first) is (inr there) = later there
+judged-factor src_cells dst_cells n (fields ∷ more) factor here =
+    judged-factor-step src_cells dst_cells n fields (judged_from src_cells dst_cells (n + 1) more) factor (judged-factor src_cells dst_cells (n + 1) more factor)
+    (record_factor src_cells dst_cells n fields) refl here
+
+-- one factor more, or none
+judged-few-step : (src_cells dst_cells n : ℕ) (fields : List (List ℕ)) (rest : Judged) → n ≤ most_records + 1
+    → (n + 1 ≤ most_records + 1 → (n + 1) + length rest.factors ≤ most_records + 1)
+    → (r : Result Factor WeightFault) → record_factor src_cells dst_cells n fields ≡ r → n + length (judged_step r rest).factors ≤ most_records + 1
+judged-few-step src_cells dst_cells n fields rest few later (Err fault) is = omega arith
+judged-few-step src_cells dst_cells n fields rest few later (Ok first) is =
+    let within = (record_factor-ok src_cells dst_cells n fields first is).1 in
+    let so_far = later (omega (arith, within)) in
+    omega (arith, so_far)
 
 -- there are not too many
 pub judged-few : (src_cells dst_cells n : ℕ) (left : List (List (List ℕ))) → n ≤ most_records + 1
     → n + length (judged_from src_cells dst_cells n left).factors ≤ most_records + 1
 judged-few src_cells dst_cells n [] few = omega arith
-judged-few src_cells dst_cells n (fields ∷ more) few = by (record_factor src_cells dst_cells n fields) refl
-  where
-    rest = judged_from src_cells dst_cells (n + 1) more
-    later = judged-few src_cells dst_cells (n + 1) more
-    by : (r : Result Factor WeightFault) → record_factor src_cells dst_cells n fields ≡ r → n + length (judged_step r rest).factors ≤ most_records + 1
-    by (Err fault) is = omega arith
-    by (Ok first) is =
-        let within = (record_factor-ok src_cells dst_cells n fields first is).1 in
-        let so_far = later (omega (arith, within)) in
-        omega (arith, so_far)
+judged-few src_cells dst_cells n (fields ∷ more) few =
+    judged-few-step src_cells dst_cells n fields (judged_from src_cells dst_cells (n + 1) more) few (judged-few src_cells dst_cells (n + 1) more)
+    (record_factor src_cells dst_cells n fields) refl
 
 -- ---- repeats
 
@@ -165,27 +171,32 @@ length-more : (before : List Factor) (factor : Factor) → length (before ++ fac
 length-more [] factor = refl
 length-more (first ∷ before) factor = omega (arith, length-more before factor)
 
+-- what one record says, and those behind it
+factors_with-step : (src_cells dst_cells : ℕ) (before : List Factor) (more : List (List (List ℕ))) (rest : Judged)
+    → ((factor : Factor) → factors_with src_cells dst_cells (before ++ factor ∷ []) more ≡ answer_behind (before ++ factor ∷ []) rest)
+    → (r : Result Factor WeightFault)
+    → ((r >>= (λ factor. ok_if (not (list_any (is_pair factor.src factor.dst) before)) (PairTwice (length before + 1)) >>= (λ _. Ok factor)))
+        >>= (λ factor. factors_with src_cells dst_cells (before ++ factor ∷ []) more))
+      ≡ answer_behind before (judged_step r rest)
+factors_with-step src_cells dst_cells before more rest later (Err fault) = refl
+factors_with-step src_cells dst_cells before more rest later (Ok factor) = elim (cases_Bool (list_any (is_pair factor.src factor.dst) before)) [
+  | inl there ↦ rw there refl
+  | inr none ↦ rw none (
+      later factor
+      ∙ ap (λ all. repeat_or (repeat_behind (before ++ factor ∷ []) rest.factors) (fault_or rest.fault all)) (append_assoc before (factor ∷ []) rest.factors)
+    )
+]
+
 -- what the records of a file say
 pub factors_with-judged : (src_cells dst_cells : ℕ) (before : List Factor) (left : List (List (List ℕ)))
     → factors_with src_cells dst_cells before left ≡ answer_behind before (judged_from src_cells dst_cells (length before + 1) left)
 factors_with-judged src_cells dst_cells before [] = ap Ok (sym (append-nil before))
-factors_with-judged src_cells dst_cells before (fields ∷ more) = by (record_factor src_cells dst_cells (length before + 1) fields)
-  where
-    n = length before + 1
-    rest = judged_from src_cells dst_cells (n + 1) more
-    later = λ (factor : Factor). factors_with-judged src_cells dst_cells (before ++ factor ∷ []) more
-    by : (r : Result Factor WeightFault)
-        → ((r >>= (λ factor. ok_if (not (list_any (is_pair factor.src factor.dst) before)) (PairTwice n) >>= (λ _. Ok factor))) >>= (λ factor. factors_with src_cells dst_cells (before ++ factor ∷ []) more))
-          ≡ answer_behind before (judged_step r rest)
-    by (Err fault) = refl
-    by (Ok factor) = elim (cases_Bool (list_any (is_pair factor.src factor.dst) before)) [
-      | inl there ↦ rw there refl
-      | inr none ↦ rw none (
-          later factor
-          ∙ ap (λ m. answer_behind (before ++ factor ∷ []) (judged_from src_cells dst_cells (m + 1) more)) (length-more before factor)
-          ∙ ap (λ all. repeat_or (repeat_behind (before ++ factor ∷ []) rest.factors) (fault_or rest.fault all)) (append_assoc before (factor ∷ []) rest.factors)
-        )
-    ]
+factors_with-judged src_cells dst_cells before (fields ∷ more) =
+    factors_with-step src_cells dst_cells before more (judged_from src_cells dst_cells ((length before + 1) + 1) more)
+    (λ factor.
+      factors_with-judged src_cells dst_cells (before ++ factor ∷ []) more
+      ∙ ap (λ m. answer_behind (before ++ factor ∷ []) (judged_from src_cells dst_cells (m + 1) more)) (length-more before factor))
+    (record_factor src_cells dst_cells (length before + 1) fields)
 
 -- kept factors of two lists
 kept_from-append : (n : ℕ) (xs ys : List Factor) → kept_from n (xs ++ ys) ≡ kept_from n xs ++ kept_from (n + length xs) ys
@@ -246,6 +257,57 @@ is_pair-from src dst factor few small same =
     let d : factor.dst ≡ dst = omega (arith, same, few, small) in
     rw (eq-eqb factor.src src s) (eq-eqb factor.dst dst d)
 
+-- a factor behind others, as it is kept
+abbrev last_kept : List Factor → Factor → KeptFactor
+last_kept before factor = kept_factor (1 + length before) factor
+
+-- a factor behind others and further ones, as they are kept
+abbrev kept_behind : List Factor → Factor → List Factor → List KeptFactor
+kept_behind before factor rest = last_kept before factor ∷ kept_from (1 + length before + 1) rest
+
+-- the numbers up to a factor are those of the factors before it
+first-part : (before : List Factor) (factor : Factor) (rest : List Factor) (k : KeptFactor) → IsIn k (kept_from 1 (before ++ factor ∷ rest)) → k.number < length before + 1
+    → IsIn k (kept_from 1 before)
+first-part before factor rest k here small =
+    elim (is_in-either k (kept_from 1 before) (kept_behind before factor rest) (rw (kept_from-append 1 before (factor ∷ rest)) at here)) [
+      | inl front ↦ front
+      | inr back ↦ let (from, to) = kept_from-number (1 + length before) (factor ∷ rest) k back in absurd (omega (arith, from, small))
+    ]
+
+-- a repeat up to a factor is one among those before it
+first-repeat : (before : List Factor) (factor : Factor) (rest : List Factor) (a b : KeptFactor) → IsRepeat (kept_from 1 (before ++ factor ∷ rest)) a b
+    → b.number < length before + 1 → IsRepeat (kept_from 1 before) a b
+first-repeat before factor rest a b repeat small = record {
+  earlier = first-part before factor rest a repeat.earlier (omega (arith, repeat.before, small));
+  later = first-part before factor rest b repeat.later small;
+  same = repeat.same;
+  before = repeat.before;
+}
+
+-- a factor whose cells none before it has makes no repeat
+alone : (before : List Factor) (factor : Factor) → factor.src < 4294967296 → ((x : Factor) → IsIn x before → x.src < 4294967296)
+    → ((a b : KeptFactor) → IsRepeat (kept_from 1 before) a b → ⊥)
+    → list_any (is_pair factor.src factor.dst) before ≡ false → (a b : KeptFactor) → IsRepeat (kept_from 1 (before ++ factor ∷ [])) a b → ⊥
+alone before factor small ranged unique none a b repeat =
+    elim (cases_lt b.number (length before + 1)) [
+      | inl few ↦ unique a b (first-repeat before factor [] a b repeat few)
+      | inr many ↦ elim (is_in-either b (kept_from 1 before) (last_kept before factor ∷ []) (rw (kept_from-append 1 before (factor ∷ [])) at repeat.later)) [
+          | inl front ↦ let (from, to) = kept_from-number 1 before b front in omega (arith, to, many)
+          | inr end ↦ elim end [
+              | inl is ↦
+                  let number : b.number ≡ 1 + length before = ap (λ (k : KeptFactor). k.number) is in
+                  let early = first-part before factor [] a repeat.earlier (omega (arith, number, repeat.before)) in
+                  let (x, here, of) = kept_from-of 1 before a early in
+                  let fails = any-none (is_pair factor.src factor.dst) before x none here in
+                  let pair : pair_number x.dst x.src ≡ pair_number factor.dst factor.src =
+                        sym (ap (λ (k : KeptFactor). k.pair) of) ∙ repeat.same ∙ ap (λ (k : KeptFactor). k.pair) is in
+                  let passes = is_pair-from factor.src factor.dst x small (ranged x here) pair in
+                  false≢true (sym fails ∙ passes)
+              | inr gone ↦ gone
+            ]
+        ]
+    ]
+
 -- the first repeat is the least, where none stands among the factors before
 repeat_behind-least : (before rest : List Factor) → ((x : Factor) → IsIn x (before ++ rest) → x.src < 4294967296)
     → ((a b : KeptFactor) → IsRepeat (kept_from 1 before) a b → ⊥)
@@ -255,6 +317,7 @@ repeat_behind-least before [] ranged unique = record {
   least_of = λ a b repeat. absurd (unique a b (rw (append-nil before) at repeat));
 }
 repeat_behind-least before (factor ∷ rest) ranged unique =
+    let split : kept_from 1 (before ++ factor ∷ rest) ≡ kept_from 1 before ++ kept_behind before factor rest = kept_from-append 1 before (factor ∷ rest) in
     elim (cases_Bool (list_any (is_pair factor.src factor.dst) before)) [
       | inl there ↦ rw there (record {
           found = λ n is.
@@ -262,65 +325,24 @@ repeat_behind-least before (factor ∷ rest) ranged unique =
               let (m, at) = kept_from-in 1 before x here in
               let (from, to) = kept_from-number 1 before (kept_factor m x) at in
               let number : 1 + length before ≡ n = let e : length before + 1 ≡ n = cc in omega (arith, e) in
-              (kept_factor m x, last, record {
-                earlier = rw (sym split) (is_in-left (kept_factor m x) (kept_from 1 before) behind at);
-                later = rw (sym split) (is_in-right last (kept_from 1 before) behind (inl refl));
-                same = is_pair-number factor.src factor.dst x passes;
-                before = to;
-              }, number);
+              let early : IsIn (kept_factor m x) (kept_from 1 (before ++ factor ∷ rest)) =
+                    rw split (is_in-left (kept_factor m x) (kept_from 1 before) (kept_behind before factor rest) at) in
+              let late : IsIn (last_kept before factor) (kept_from 1 (before ++ factor ∷ rest)) =
+                    rw split (is_in-right (last_kept before factor) (kept_from 1 before) (kept_behind before factor rest) (inl refl)) in
+              (kept_factor m x, last_kept before factor, record { earlier = early; later = late; same = is_pair-number factor.src factor.dst x passes; before = to }, number);
           least_of = λ a b repeat. (length before + 1, refl, elim (cases_lt b.number (length before + 1)) [
-            | inl small ↦ absurd (unique a b (among a b repeat small))
+            | inl small ↦ absurd (unique a b (first-repeat before factor rest a b repeat small))
             | inr large ↦ large
           ]);
         })
-      | inr none ↦ rw none (rw (append_assoc before (factor ∷ []) rest) at
-          (repeat_behind-least (before ++ factor ∷ []) rest (λ x here. ranged x (rw (append_assoc before (factor ∷ []) rest) at here)) (alone none)))
+      | inr none ↦ rw none (
+          let again = append_assoc before (factor ∷ []) rest in
+          let P : List Factor → Type 0 = λ all. IsLeastRepeat (kept_from 1 all) (repeat_behind (before ++ factor ∷ []) rest) in
+          let Q : List Factor → Type 0 = λ all. (x : Factor) → IsIn x all → x.src < 4294967296 in
+          subst P again
+          (repeat_behind-least (before ++ factor ∷ []) rest (subst Q (sym again) ranged)
+            (alone before factor (ranged factor (is_in-right factor before (factor ∷ rest) (inl refl))) (λ x here. ranged x (is_in-left x before (factor ∷ rest) here)) unique none)))
     ]
-  where
-    last = kept_factor (1 + length before) factor
-    behind = last ∷ kept_from (1 + length before + 1) rest
-    split : kept_from 1 (before ++ factor ∷ rest) ≡ kept_from 1 before ++ behind
-    split = kept_from-append 1 before (factor ∷ rest)
-    first_part : (k : KeptFactor) → IsIn k (kept_from 1 (before ++ factor ∷ rest)) → k.number < length before + 1 → IsIn k (kept_from 1 before)
-    first_part k here small = elim (is_in-either k (kept_from 1 before) behind (rw split at here)) [
-      | inl front ↦ front
-      | inr back ↦ let (from, to) = kept_from-number (1 + length before) (factor ∷ rest) k back in absurd (omega (arith, from, small))
-    ]
-    among : (a b : KeptFactor) → IsRepeat (kept_from 1 (before ++ factor ∷ rest)) a b → b.number < length before + 1 → IsRepeat (kept_from 1 before) a b
-    among a b repeat small = record {
-      earlier = first_part a repeat.earlier (omega (arith, repeat.before));
-      later = first_part b repeat.later small;
-      same = repeat.same;
-      before = repeat.before;
-    }
-    one : kept_from 1 (before ++ factor ∷ []) ≡ kept_from 1 before ++ last ∷ []
-    one = kept_from-append 1 before (factor ∷ [])
-    alone : list_any (is_pair factor.src factor.dst) before ≡ false → (a b : KeptFactor) → IsRepeat (kept_from 1 (before ++ factor ∷ [])) a b → ⊥
-    alone none a b repeat =
-        elim (is_in-either a (kept_from 1 before) (last ∷ []) (rw one at repeat.earlier)) [
-          | inl early ↦ elim (is_in-either b (kept_from 1 before) (last ∷ []) (rw one at repeat.later)) [
-              | inl late ↦ unique a b (record { earlier = early; later = late; same = repeat.same; before = repeat.before })
-              | inr end ↦ elim end [
-                  | inl is ↦
-                      let (x, here, of) = kept_from-of 1 before a early in
-                      let fails = any-none (is_pair factor.src factor.dst) before x none here in
-                      let pair : pair_number x.dst x.src ≡ pair_number factor.dst factor.src =
-                            sym (ap (λ (k : KeptFactor). k.pair) of) ∙ repeat.same ∙ ap (λ (k : KeptFactor). k.pair) is in
-                      let passes = is_pair-from factor.src factor.dst x
-                            (ranged factor (is_in-right factor before (factor ∷ rest) (inl refl)))
-                            (ranged x (is_in-left x before (factor ∷ rest) here)) pair in
-                      absurd (cc)
-                  | inr gone ↦ gone
-                ]
-            ]
-          | inr end ↦ elim end [
-              | inl is ↦
-                  let number : a.number ≡ 1 + length before = ap (λ (k : KeptFactor). k.number) is in
-                  let (from, to) = kept_from-number 1 (before ++ factor ∷ []) b repeat.later in
-                  absurd (omega (arith, number, to, repeat.before, length-more before factor))
-              | inr gone ↦ gone
-            ]
-        ]
 
 -- the first repeat of a file is the least
 pub repeat-least : (factors : List Factor) → ((x : Factor) → IsIn x factors → x.src < 4294967296) → IsLeastRepeat (kept_from 1 factors) (repeat_behind [] factors)

@@ -8,4 +8,5 @@ mod OrderFacts
 mod ReaderFacts
 mod RecordFacts
 mod RepeatFacts
+mod RowFacts
 mod SumFacts

@@ -1,5 +1,5 @@
 -- Members of lists, and what is found among them.
-use Rattle.std.proofs.Common.{◌≡◌, ◌⊎◌, ◌∙◌, ℕ, zero, suc, ◌+◌, ◌<◌, Bool, true, false, List, [], ◌∷◌, ◌++◌, length, get_or, filter, find, Option, Some, None, refl, sym, ap, inl, inr, arith}
+use Rattle.std.proofs.Common.{◌≡◌, ◌⊎◌, ◌∙◌, ℕ, zero, suc, ◌+◌, ◌<◌, Bool, true, false, List, [], ◌∷◌, ◌++◌, All, length, get_or, filter, find, Option, Some, None, refl, sym, ap, subst, inl, inr, arith}
 use Rattle.std.proofs.lemmas.Bool.{cases_Bool}
 use Rattle.std.proofs.lemmas.List.Sorted.{Contains-permutation, IsPermutation-sym}
 use Rattle.std.specs.List.{Contains}
@@ -94,3 +94,28 @@ find-filter p q (x ∷ xs) implies =
           | inr fails ↦ rw (gone, fails) (find-filter p q xs implies)
         ]
     ]
+
+-- a member of what passes a filter
+pub is_in-filter : {X : Type 0} (p : X → Bool) (xs : List X) (x : X) → IsIn x (filter p xs) → IsIn x xs × (p x ≡ true)
+is_in-filter p [] x here = absurd here
+is_in-filter p (y ∷ ys) x here =
+    elim (cases_Bool (p y)) [
+      | inl kept ↦ elim (rw kept at here) [
+          | inl same ↦ (inl same, ap p same ∙ kept)
+          | inr there ↦ let (later, passes) = is_in-filter p ys x there in (inr later, passes)
+        ]
+      | inr gone ↦ let (later, passes) = is_in-filter p ys x (rw gone at here) in (inr later, passes)
+    ]
+
+-- what holds of each member
+pub All-in : {X : Type 0} (P : X → Type 0) (xs : List X) (x : X) → All P xs → IsIn x xs → P x
+All-in P xs x all here = let (k, few, is) = place-of x xs here in subst P is (all k x few)
+
+-- and the other way
+pub All-from_in : {X : Type 0} (P : X → Type 0) (xs : List X) → ((x : X) → IsIn x xs → P x) → All P xs
+All-from_in P [] each = λ k d few. absurd (omega arith)
+All-from_in P (y ∷ ys) each = λ k d few. by k d few
+  where
+    by : (k : ℕ) (d : _) → k < length (y ∷ ys) → P (get_or (y ∷ ys) k d)
+    by zero d few = each y (inl refl)
+    by (suc k) d few = All-from_in P ys (λ x here. each x (inr here)) k d (omega arith)

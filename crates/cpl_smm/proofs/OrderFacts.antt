@@ -50,3 +50,9 @@ unfolding Ascends
 Ascends-find_none low key [] below up = refl
 Ascends-find_none low key (factor ∷ factors) below up =
     rw (ne_eqb factor.pair key (λ e. omega (arith, up.0, e))) (Ascends-find_none factor.pair key factors (omega (arith, up.0)) up.1)
+
+-- all are above a number where each is
+pub Ascends-raise : (low high : ℕ) (factors : List KeptFactor) → Ascends low factors → ((factor : KeptFactor) → IsIn factor factors → high < factor.pair) → Ascends high factors
+unfolding Ascends
+Ascends-raise low high [] up above = tt
+Ascends-raise low high (factor ∷ factors) up above = (above factor (inl refl), up.1)

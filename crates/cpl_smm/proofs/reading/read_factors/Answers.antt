@@ -1,8 +1,26 @@
+use Rattle.std.proofs.Common.{◌≡◌, ◌∙◌, ◌+◌, ◌≤◌, ◌++◌, ◌∷◌, [], List, Ok, ap, arith, append_assoc, sym, refl}
+use Rattle.csv.specs.Records.{fields_of}
+use Rattle.cpl_smm.specs.Kept.{judged_from, kept_answer, kept_from, records_left}
+use Rattle.cpl_smm.specs.Records.{most_records, record_factor}
+use Rattle.cpl_smm.specs.declared.entries.KeptFactor.{KeptFactor}
+use Rattle.cpl_smm.proofs.JudgedFacts.{kept_answer-ok, record_factor-ok, step-factors, step-fault}
 use Rattle.cpl_smm.proofs.reading.read_factors.Goals as goal
 
 pub loop-number-init : goal.loop-number-init
-loop-number-init c = ?
+loop-number-init c = record {
+  reading = c.reader-reader.ensures.reading;
+  factors =
+      ap (λ (ks : List KeptFactor). ks ++ kept_from 1 (judged_from c.args.src_cells c.args.dst_cells 1 (records_left c.reader-reader.result)).factors) c.new-factors.ensures.items
+      ∙ ap (λ left. kept_from 1 (judged_from c.args.src_cells c.args.dst_cells 1 left).factors) c.reader-reader.ensures.left;
+  few = omega arith;
+  fault = ap (λ left. (judged_from c.args.src_cells c.args.dst_cells 1 left).fault) c.reader-reader.ensures.left;
+}
 
 pub loop-number-preserved : goal.loop-number-preserved
 loop-number-preserved c = ?
 
+pub returns-clause-factors : goal.returns-clause-factors
+returns-clause-factors c = let few = c.loop-number.invariant.few in absurd (omega arith)
+
+pub returns-clause-fault : goal.returns-clause-fault
+returns-clause-fault c = let few = c.loop-number.invariant.few in absurd (omega arith)
