@@ -1,7 +1,9 @@
 -- How many of the first factors have at most a destination cell.
-use Rattle.std.proofs.Common.{◌≡◌, ◌∙◌, ℕ, zero, suc, ◌+◌, ◌/◌, ◌≤◌, ◌<◌, true, false, List, [], ◌∷◌, length, drop, refl, sym, ap, inl, inr, arith}
+use Rattle.std.proofs.Common.{◌≡◌, ◌∙◌, ℕ, zero, suc, ◌+◌, ◌/◌, ◌≤◌, ◌<◌, true, false, List, [], ◌∷◌, length, drop, map, slice_index, refl, sym, ap, inl, inr, arith}
 use Rattle.std.proofs.lemmas.Bool.{cases_lt, le-leb, lt-leb}
-use Rattle.cpl_smm.specs.Kept.{count_upto, dst_of, is_upto}
+use Rattle.std.proofs.lemmas.List.FromFn.{get_or-map-range_with_len, length-map-range_with_len}
+use Rattle.std.specs.List.{range_with_len}
+use Rattle.cpl_smm.specs.Kept.{AreStarts, count_upto, dst_of, is_upto}
 use Rattle.cpl_smm.specs.declared.entries.KeptFactor.{KeptFactor}
 
 -- a factor at most
@@ -29,3 +31,18 @@ count_upto-within d (factor ∷ factors) =
       | inl above ↦ rw (count_upto-above d factor factors above) (omega arith)
       | inr upto ↦ rw (count_upto-here d factor factors upto) (omega (arith, count_upto-within d factors))
     ]
+
+-- a count for a cell further on is no less
+count_upto-more : (d : ℕ) (factors : List KeptFactor) → count_upto d factors ≤ count_upto (d + 1) factors
+count_upto-more d factors = let on = count_upto-on d (d + 1) factors (omega arith) in omega (arith, on)
+
+-- counts as starts
+pub AreStarts-counts : (dst_cells : ℕ) (factors : List KeptFactor) → AreStarts (map (λ dst. count_upto dst factors) (range_with_len 0 (dst_cells + 1))) dst_cells (length factors)
+AreStarts-counts dst_cells factors =
+    let at : (k : ℕ) → k ≤ dst_cells → slice_index (map (λ dst. count_upto dst factors) (range_with_len 0 (dst_cells + 1))) k ≡ count_upto k factors =
+          λ k within. get_or-map-range_with_len (λ dst. count_upto dst factors) 0 (dst_cells + 1) k k 0 (omega arith) (omega arith) in
+    record {
+      size = length-map-range_with_len (λ dst. count_upto dst factors) 0 (dst_cells + 1);
+      ascending = λ k less. rw (at k (omega arith), at (k + 1) (omega arith)) (count_upto-more k factors);
+      within = λ k less. rw (at k less) (count_upto-within k factors);
+    }

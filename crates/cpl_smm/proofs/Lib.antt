@@ -1,4 +1,5 @@
 mod CountFacts
+mod FileFacts
 mod JudgedFacts
 mod KeptFacts
 mod MarkFacts
@@ -9,4 +10,5 @@ mod ReaderFacts
 mod RecordFacts
 mod RepeatFacts
 mod RowFacts
+mod SortFacts
 mod SumFacts

@@ -111,11 +111,12 @@ is_in-filter p (y ∷ ys) x here =
 pub All-in : {X : Type 0} (P : X → Type 0) (xs : List X) (x : X) → All P xs → IsIn x xs → P x
 All-in P xs x all here = let (k, few, is) = place-of x xs here in subst P is (all k x few)
 
+-- a first member, and others
+All-first : {X : Type 0} (P : X → Type 0) (y : X) (ys : List X) → P y → All P ys → (k : ℕ) (d : X) → k < length (y ∷ ys) → P (get_or (y ∷ ys) k d)
+All-first P y ys first rest zero d few = first
+All-first P y ys first rest (suc k) d few = rest k d (omega arith)
+
 -- and the other way
 pub All-from_in : {X : Type 0} (P : X → Type 0) (xs : List X) → ((x : X) → IsIn x xs → P x) → All P xs
 All-from_in P [] each = λ k d few. absurd (omega arith)
-All-from_in P (y ∷ ys) each = λ k d few. by k d few
-  where
-    by : (k : ℕ) (d : _) → k < length (y ∷ ys) → P (get_or (y ∷ ys) k d)
-    by zero d few = each y (inl refl)
-    by (suc k) d few = All-from_in P ys (λ x here. each x (inr here)) k d (omega arith)
+All-from_in P (y ∷ ys) each = All-first P y ys (each y (inl refl)) (All-from_in P ys (λ x here. each x (inr here)))

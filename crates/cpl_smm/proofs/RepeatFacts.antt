@@ -46,7 +46,7 @@ Climbs low [] = Unit {0}
 Climbs low (factor ∷ factors) = (low < rank factor) × (factor.number < 8388608) × Climbs (rank factor) factors
 
 -- each member is above
-Climbs-member : (low : ℕ) (factors : List KeptFactor) (factor : KeptFactor) → Climbs low factors → IsIn factor factors → (low < rank factor) × (factor.number < 8388608)
+pub Climbs-member : (low : ℕ) (factors : List KeptFactor) (factor : KeptFactor) → Climbs low factors → IsIn factor factors → (low < rank factor) × (factor.number < 8388608)
 unfolding Climbs
 Climbs-member low [] factor up here = absurd here
 Climbs-member low (first ∷ factors) factor up (inl same) = rw same (up.0, up.1)

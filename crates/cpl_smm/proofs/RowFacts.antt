@@ -240,7 +240,7 @@ row_in-row src_cells factors dst sorted =
           (All-weaker (IsRanged src_cells) (λ k. (1 ≤ src_of k) × (src_of k ≤ src_cells)) (λ k here. (here.from_one, here.within)) row ranged);
       weights = All-map (λ (entry : Entry). IsWeight entry.1) entry_of row (All-weaker (IsRanged src_cells) (λ k. IsWeight k.weight) (λ k here. here.weight) row ranged);
       few =
-          let count : length (row_in factors dst) ≡ length row = length-map entry_of row in
+          let count : length (row_in factors dst) ≡ length row = length-map row entry_of in
           let few = source-few dst (dst * 4294967296) 0 src_cells row (λ k here. (same k here, (member k here).within))
                 (Ascends-raise 0 (dst * 4294967296) row up (λ k here. let is = same k here in let from = (member k here).from_one in omega (arith, is, from)))
                 (omega arith) (omega arith) in

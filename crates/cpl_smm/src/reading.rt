@@ -1,6 +1,8 @@
 //! A file of weights: its records are read, sorted by their cells, and kept row by row.
 
-ghost use Rattle.std.specs.Prelude.{◌≡◌, IfOk, IfErr};
+ghost use Rattle.std.specs.Prelude.{◌≡◌, IfOk, IfErr, OnOk};
+ghost use Rattle.std.specs.List.Sorted.{IsNonDecreasingBy, IsPermutation, IsStableByKey};
+ghost use Rattle.std.specs.Ordering.{nat_cmp};
 ghost use Rattle.cpl_base.specs.Gives.{Gives};
 ghost use Rattle.csv.specs.Records.{fields_of};
 ghost use Rattle.cpl_smm.specs.Files.{records_of, weights_of};
@@ -11,6 +13,7 @@ use crate::entries::{KeptFactor, least_repeat};
 use crate::fault::WeightFault;
 use crate::records::{MOST_RECORDS, kept_factor};
 use crate::weights::Weights;
+use cpl_base::Memory;
 use csv::{ByteRecord, Reader, ReaderBuilder};
 use std::alloc::Global;
 
@@ -39,7 +42,7 @@ pub fn read_weights(
 {
     let reading = read_factors(alloc, bytes, src_cells, dst_cells)?;
     let Reading { mut factors, fault } = reading;
-    factors.sort_by_key(|factor| factor.pair)?;
+    sort_factors(&mut factors)?;
     if let Some(n) = least_repeat(factors.as_slice()) {
         return Err(WeightFault::PairTwice { n });
     }
@@ -50,6 +53,16 @@ pub fn read_weights(
             Ok(weights)
         }
     }
+}
+
+/// Sorts factors by their cells; those of equal cells stay in their order.
+fn sort_factors(factors: &mut Vec<KeptFactor>) -> Result<(), Memory>
+    ensures moved { IsPermutation factors.old.items factors.new.items }
+    ensures sorted { OnOk result (IsNonDecreasingBy (λ factor. factor.pair) factors.new.items) }
+    ensures stable { IsStableByKey (λ factor. factor.pair) nat_cmp factors.old.items factors.new.items }
+{
+    factors.sort_by_key(|factor| factor.pair)?;
+    Ok(())
 }
 
 /// The factors of the records up to the first that is faulty by itself, and its fault.

@@ -17,7 +17,22 @@ loop-number-init c = record {
 }
 
 pub loop-number-preserved : goal.loop-number-preserved
-loop-number-preserved c = ?
+loop-number-preserved c =
+    let n = c.loop-number.number in
+    let fields = fields_of c.reads_on.new.record in
+    let src_cells = c.args.src_cells in
+    let dst_cells = c.args.dst_cells in
+    let more = judged_from src_cells dst_cells (n + 1) (records_left c.reads_on.new.reader) in
+    let said : Ok c.in-Ok.factor ≡ kept_answer n (record_factor src_cells dst_cells n fields) = ? in
+    let gave = ? in
+    let (factor, ok) = kept_answer-ok n (record_factor src_cells dst_cells n fields) c.in-Ok.factor said in
+    let within = (record_factor-ok src_cells dst_cells n fields factor ok).1 in
+    record {
+      reading = ?;
+      factors = ?;
+      few = omega (arith, within);
+      fault = ?;
+    }
 
 pub returns-clause-factors : goal.returns-clause-factors
 returns-clause-factors c = let few = c.loop-number.invariant.few in absurd (omega arith)

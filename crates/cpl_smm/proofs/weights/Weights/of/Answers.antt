@@ -1,8 +1,29 @@
-use Rattle.cpl_smm.proofs.RowFacts.{row_in-row, rows_between-rows, slice_index-starts}
+use Rattle.std.proofs.Common.{◌≡◌, ◌∙◌, ◌+◌, ◌≤◌, ◌<◌, ◌^◌, ℕ, List, All, ap, arith, length, map, refl, subst, sym}
+use Rattle.std.proofs.lemmas.List.{length-map}
+use Rattle.std.proofs.lemmas.List.Elements.{All-map}
+use Rattle.std.proofs.lemmas.List.FromFn.{length-map-range_with_len}
+use Rattle.std.specs.List.{range_with_len}
+use Rattle.cpl_smm.specs.Kept.{count_upto, entry_of, row_in, rows_between}
+use Rattle.cpl_smm.specs.Rows.{Entry, IsRow}
+use Rattle.cpl_smm.proofs.CountFacts.{AreStarts-counts}
+use Rattle.cpl_smm.proofs.RowFacts.{row_in-row, rows_between-rows}
 use Rattle.cpl_smm.proofs.weights.Weights.of.Goals as goal
 
 pub invariant_of-result : goal.invariant_of-result
-invariant_of-result c = ?
+invariant_of-result c =
+    let factors = c.args.factors.now in
+    let rows = rows_between-rows c.args.dst_cells factors c.requires.ascend in
+    let P : List (List Entry) → Type 0 = λ rows. All (IsRow c.args.src_cells) rows in
+    let each : P (map (row_in factors) (range_with_len 1 c.args.dst_cells)) =
+          All-map (IsRow c.args.src_cells) (row_in factors) (range_with_len 1 c.args.dst_cells) (λ k d few. row_in-row c.args.src_cells factors _ c.requires) in
+    rw (c.in_ok-starts_of.ensures, c.in_ok-entries_of.ensures) (record {
+      starts = rw (length-map factors entry_of) (AreStarts-counts c.args.dst_cells factors);
+      rows = subst P (sym rows) each;
+    })
 
 pub returns : goal.returns
-returns c = ?
+returns c =
+    let factors = c.args.factors.now in
+    let rows = rows_between-rows c.args.dst_cells factors c.requires.ascend in
+    let count = length-map factors entry_of in
+    rw (c.in_ok-starts_of.ensures, c.in_ok-entries_of.ensures) (λ i. record { src_cells = c.args.src_cells; records = count i; rows = rows i })
