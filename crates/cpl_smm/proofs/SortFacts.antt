@@ -106,7 +106,7 @@ first-in [] d some = absurd (omega arith)
 first-in (factor ∷ factors) d some = inl refl
 
 -- as many are kept as there are
-length-kept : (n : ℕ) (factors : List Factor) → length (kept_from n factors) ≡ length factors
+pub length-kept : (n : ℕ) (factors : List Factor) → length (kept_from n factors) ≡ length factors
 length-kept n [] = refl
 length-kept n (factor ∷ factors) = ap suc (length-kept (n + 1) factors)
 

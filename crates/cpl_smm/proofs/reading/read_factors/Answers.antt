@@ -1,6 +1,6 @@
 use Rattle.std.proofs.Common.{◌≡◌, ◌∙◌, ◌+◌, ◌≤◌, ◌++◌, ◌∷◌, [], List, Ok, ap, arith, append_assoc, sym, refl}
 use Rattle.csv.specs.Records.{fields_of}
-use Rattle.cpl_smm.specs.Kept.{judged_from, kept_answer, kept_from, records_left}
+use Rattle.cpl_smm.specs.Kept.{GaveRecord, judged_from, kept_answer, kept_from, records_left}
 use Rattle.cpl_smm.specs.Records.{most_records, record_factor}
 use Rattle.cpl_smm.specs.declared.entries.KeptFactor.{KeptFactor}
 use Rattle.cpl_smm.proofs.JudgedFacts.{kept_answer-ok, record_factor-ok, step-factors, step-fault}
@@ -23,15 +23,24 @@ loop-number-preserved c =
     let src_cells = c.args.src_cells in
     let dst_cells = c.args.dst_cells in
     let more = judged_from src_cells dst_cells (n + 1) (records_left c.reads_on.new.reader) in
-    let said : Ok c.in-Ok.factor ≡ kept_answer n (record_factor src_cells dst_cells n fields) = ? in
-    let gave = ? in
-    let (factor, ok) = kept_answer-ok n (record_factor src_cells dst_cells n fields) c.in-Ok.factor said in
+    let r = record_factor src_cells dst_cells n fields in
+    let kept = c.in-Ok.factor in
+    let said : Ok kept ≡ kept_answer n r = sym c.in-Ok.is ∙ c.kept_factor.ensures in
+    let gave : GaveRecord c.loop-number.reader c.reads_on.new.reader fields = rw c.if-not-branch.false at c.in_ok-reads_on.ensures.ok in
+    let (factor, ok) = kept_answer-ok n r kept said in
     let within = (record_factor-ok src_cells dst_cells n fields factor ok).1 in
+    let so_far = c.loop-number.factors.items in
+    let left = sym gave.left in
     record {
-      reading = ?;
-      factors = ?;
+      reading = gave.reading;
+      factors =
+          ap (λ (ks : List KeptFactor). ks ++ kept_from (n + 1) more.factors) c.in_ok-push-in-Ok.ensures.items
+          ∙ append_assoc so_far (kept ∷ []) (kept_from (n + 1) more.factors)
+          ∙ ap (λ (ks : List KeptFactor). so_far ++ ks) (sym (step-factors n r more kept said))
+          ∙ ap (λ left. so_far ++ kept_from n (judged_from src_cells dst_cells n left).factors) left
+          ∙ c.loop-number.invariant.factors;
       few = omega (arith, within);
-      fault = ?;
+      fault = sym (step-fault n r more kept said) ∙ ap (λ left. (judged_from src_cells dst_cells n left).fault) left ∙ c.loop-number.invariant.fault;
     }
 
 pub returns-clause-factors : goal.returns-clause-factors
