@@ -5,6 +5,7 @@ mod KeptFacts
 mod MarkFacts
 mod MemberFacts
 mod NeedFacts
+mod NumberFacts
 mod OrderFacts
 mod ReaderFacts
 mod RecordFacts

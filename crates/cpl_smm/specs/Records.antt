@@ -7,7 +7,8 @@ use Rattle.cpl_base.specs.declared.value.ValFault.TheVariants.{Digits, Places, R
 use Rattle.cpl_smm.specs.declared.fault.WeightFault.{WeightFault}
 use Rattle.cpl_smm.specs.declared.fault.WeightFault.TheVariants.{BadRecord, IndexRange, WeightRange, TooManyWeights}
 use Rattle.cpl_smm.specs.declared.records.Fields.{Fields}
-use Rattle.cpl_smm.specs.declared.records.TheConstants.{GREATEST_WEIGHT, MOST_RECORDS}
+use Rattle.cpl_smm.specs.declared.numbers.TheConstants.{GREATEST_WEIGHT}
+use Rattle.cpl_smm.specs.declared.records.TheConstants.{MOST_RECORDS}
 
 -- a file has so many records at most
 abbrev pub most_records : ℕ

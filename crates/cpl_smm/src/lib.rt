@@ -6,6 +6,7 @@ mod entries;
 mod examples;
 mod fault;
 mod marks;
+mod numbers;
 mod reading;
 mod records;
 mod rows;

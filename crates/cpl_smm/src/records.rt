@@ -3,22 +3,15 @@
 ghost use Rattle.std.specs.Prelude.{◌≡◌, option_map};
 ghost use Rattle.csv.specs.Records.{fields_of};
 ghost use Rattle.cpl_smm.specs.Kept.{kept_answer};
-ghost use Rattle.cpl_smm.specs.Records.{fields_in, is_cell, record_factor, three_of, weight_in_range};
-ghost use Rattle.cpl_base.specs.Numerals.{numeral_of};
+ghost use Rattle.cpl_smm.specs.Records.{fields_in, is_cell, record_factor, three_of};
 
 use crate::entries::KeptFactor;
 use crate::fault::WeightFault;
-use cpl_base::{ValFault, number_word, read_numeral};
+use crate::numbers::{number_word, weight_in_range};
 use csv::ByteRecord;
 
 /// A file has so many records at most.
 pub(crate) const MOST_RECORDS: u64 = 4_194_304;
-
-/// The greatest weight, a thousand, in billionths.
-const GREATEST_WEIGHT: u64 = 1_000_000_000_000;
-
-/// A weight has so many places behind its point.
-const PLACES: usize = 9;
 
 /// So many source cells there may be, and one more.
 pub(crate) const WIDE: u64 = 0x1_0000_0000;
@@ -89,15 +82,4 @@ fn three(record: &ByteRecord) -> Option<(&[u8], &[u8], &[u8])>
         return None;
     }
     Some((record.get(0)?, record.get(1)?, record.get(2)?))
-}
-
-/// A weight, if it is in range; nothing at all where the text hasn't the form of one.
-fn weight_in_range(text: &[u8]) -> Option<Option<i64>>
-    ensures { result ≡ weight_in_range (numeral_of 9 GREATEST_WEIGHT text.now) }
-{
-    match read_numeral(PLACES, GREATEST_WEIGHT, text) {
-        Ok(weight) => Some(Some(weight)),
-        Err(ValFault::Range) => Some(None),
-        Err(ValFault::Digits | ValFault::Places) => None,
-    }
 }
