@@ -169,7 +169,12 @@ fn measure_rows(
     let start = Instant::now(rt)?;
     report(rt, "rows_of_4", start, rows_sum(&four, values, rows))?;
     let start = Instant::now(rt)?;
-    report(rt, "plain_rows_of_4", start, plain_rows(&four, values, rows))?;
+    report(
+        rt,
+        "plain_rows_of_4",
+        start,
+        plain_rows(&four, values, rows),
+    )?;
     let start = Instant::now(rt)?;
     report(rt, "rows_of_16", start, rows_sum(&sixteen, values, rows))?;
     let start = Instant::now(rt)?;

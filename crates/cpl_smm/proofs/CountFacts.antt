@@ -40,7 +40,7 @@ count_upto-more d factors = let on = count_upto-on d (d + 1) factors (omega arit
 pub AreStarts-counts : (dst_cells : ℕ) (factors : List KeptFactor) → AreStarts (map (λ dst. count_upto dst factors) (range_with_len 0 (dst_cells + 1))) dst_cells (length factors)
 AreStarts-counts dst_cells factors =
     let at : (k : ℕ) → k ≤ dst_cells → slice_index (map (λ dst. count_upto dst factors) (range_with_len 0 (dst_cells + 1))) k ≡ count_upto k factors =
-          λ k within. get_or-map-range_with_len (λ dst. count_upto dst factors) 0 (dst_cells + 1) k k 0 (omega arith) (omega arith) in
+    λ k within. get_or-map-range_with_len (λ dst. count_upto dst factors) 0 (dst_cells + 1) k k 0 (omega arith) (omega arith) in
     record {
       size = length-map-range_with_len (λ dst. count_upto dst factors) 0 (dst_cells + 1);
       ascending = λ k less. rw (at k (omega arith), at (k + 1) (omega arith)) (count_upto-more k factors);

@@ -96,9 +96,10 @@ record_factor-ok src_cells dst_cells n fields factor is =
           dst_within = leb-true f.dst dst_cells d.1;
           weight = fields_in-weight fields f weight here there;
         })
+
     with_fields : (o : Option Fields) → fields_in fields ≡ o
         → (value_or (BadRecord n) o >>= (λ f. ok_if (is_cell src_cells f.src && is_cell dst_cells f.dst) (IndexRange n) >>= (λ _. value_or (WeightRange n) f.weight >>= (λ weight.
-          Ok (record { src = f.src; dst = f.dst; weight = weight }))))) ≡ Ok factor → IsFactor src_cells dst_cells factor
+        Ok (record { src = f.src; dst = f.dst; weight = weight }))))) ≡ Ok factor → IsFactor src_cells dst_cells factor
     with_fields None here is = absurd (cc)
     with_fields (Some f) here is =
         elim (cases_Bool (is_cell src_cells f.src && is_cell dst_cells f.dst)) [
@@ -176,15 +177,15 @@ factors_with-step : (src_cells dst_cells : ℕ) (before : List Factor) (more : L
     → ((factor : Factor) → factors_with src_cells dst_cells (before ++ factor ∷ []) more ≡ answer_behind (before ++ factor ∷ []) rest)
     → (r : Result Factor WeightFault)
     → ((r >>= (λ factor. ok_if (not (list_any (is_pair factor.src factor.dst) before)) (PairTwice (length before + 1)) >>= (λ _. Ok factor)))
-        >>= (λ factor. factors_with src_cells dst_cells (before ++ factor ∷ []) more))
-      ≡ answer_behind before (judged_step r rest)
+    >>= (λ factor. factors_with src_cells dst_cells (before ++ factor ∷ []) more))
+    ≡ answer_behind before (judged_step r rest)
 factors_with-step src_cells dst_cells before more rest later (Err fault) = refl
 factors_with-step src_cells dst_cells before more rest later (Ok factor) = elim (cases_Bool (list_any (is_pair factor.src factor.dst) before)) [
   | inl there ↦ rw there refl
   | inr none ↦ rw none (
       later factor
       ∙ ap (λ all. repeat_or (repeat_behind (before ++ factor ∷ []) rest.factors) (fault_or rest.fault all)) (append_assoc before (factor ∷ []) rest.factors)
-    )
+      )
 ]
 
 -- what the records of a file say
@@ -194,8 +195,8 @@ factors_with-judged src_cells dst_cells before [] = ap Ok (sym (append-nil befor
 factors_with-judged src_cells dst_cells before (fields ∷ more) =
     factors_with-step src_cells dst_cells before more (judged_from src_cells dst_cells ((length before + 1) + 1) more)
     (λ factor.
-      factors_with-judged src_cells dst_cells (before ++ factor ∷ []) more
-      ∙ ap (λ m. answer_behind (before ++ factor ∷ []) (judged_from src_cells dst_cells (m + 1) more)) (length-more before factor))
+    factors_with-judged src_cells dst_cells (before ++ factor ∷ []) more
+    ∙ ap (λ m. answer_behind (before ++ factor ∷ []) (judged_from src_cells dst_cells (m + 1) more)) (length-more before factor))
     (record_factor src_cells dst_cells (length before + 1) fields)
 
 -- kept factors of two lists
@@ -292,20 +293,20 @@ alone before factor small ranged unique none a b repeat =
     elim (cases_lt b.number (length before + 1)) [
       | inl few ↦ unique a b (first-repeat before factor [] a b repeat few)
       | inr many ↦ elim (is_in-either b (kept_from 1 before) (last_kept before factor ∷ []) (rw (kept_from-append 1 before (factor ∷ [])) at repeat.later)) [
-          | inl front ↦ let (from, to) = kept_from-number 1 before b front in omega (arith, to, many)
-          | inr end ↦ elim end [
-              | inl is ↦
-                  let number : b.number ≡ 1 + length before = ap (λ (k : KeptFactor). k.number) is in
-                  let early = first-part before factor [] a repeat.earlier (omega (arith, number, repeat.before)) in
-                  let (x, here, of) = kept_from-of 1 before a early in
-                  let fails = any-none (is_pair factor.src factor.dst) before x none here in
-                  let pair : pair_number x.dst x.src ≡ pair_number factor.dst factor.src =
-                        sym (ap (λ (k : KeptFactor). k.pair) of) ∙ repeat.same ∙ ap (λ (k : KeptFactor). k.pair) is in
-                  let passes = is_pair-from factor.src factor.dst x small (ranged x here) pair in
-                  false≢true (sym fails ∙ passes)
-              | inr gone ↦ gone
-            ]
+        | inl front ↦ let (from, to) = kept_from-number 1 before b front in omega (arith, to, many)
+        | inr end ↦ elim end [
+          | inl is ↦
+              let number : b.number ≡ 1 + length before = ap (λ (k : KeptFactor). k.number) is in
+              let early = first-part before factor [] a repeat.earlier (omega (arith, number, repeat.before)) in
+              let (x, here, of) = kept_from-of 1 before a early in
+              let fails = any-none (is_pair factor.src factor.dst) before x none here in
+              let pair : pair_number x.dst x.src ≡ pair_number factor.dst factor.src =
+              sym (ap (λ (k : KeptFactor). k.pair) of) ∙ repeat.same ∙ ap (λ (k : KeptFactor). k.pair) is in
+              let passes = is_pair-from factor.src factor.dst x small (ranged x here) pair in
+              false≢true (sym fails ∙ passes)
+          | inr gone ↦ gone
         ]
+      ]
     ]
 
 -- the first repeat is the least, where none stands among the factors before
@@ -320,28 +321,32 @@ repeat_behind-least before (factor ∷ rest) ranged unique =
     let split : kept_from 1 (before ++ factor ∷ rest) ≡ kept_from 1 before ++ kept_behind before factor rest = kept_from-append 1 before (factor ∷ rest) in
     elim (cases_Bool (list_any (is_pair factor.src factor.dst) before)) [
       | inl there ↦ rw there (record {
-          found = λ n is.
-              let (x, here, passes) = any-found (is_pair factor.src factor.dst) before there in
-              let (m, at) = kept_from-in 1 before x here in
-              let (from, to) = kept_from-number 1 before (kept_factor m x) at in
-              let number : 1 + length before ≡ n = let e : length before + 1 ≡ n = cc in omega (arith, e) in
-              let early : IsIn (kept_factor m x) (kept_from 1 (before ++ factor ∷ rest)) =
-                    rw split (is_in-left (kept_factor m x) (kept_from 1 before) (kept_behind before factor rest) at) in
-              let late : IsIn (last_kept before factor) (kept_from 1 (before ++ factor ∷ rest)) =
-                    rw split (is_in-right (last_kept before factor) (kept_from 1 before) (kept_behind before factor rest) (inl refl)) in
-              (kept_factor m x, last_kept before factor, record { earlier = early; later = late; same = is_pair-number factor.src factor.dst x passes; before = to }, number);
-          least_of = λ a b repeat. (length before + 1, refl, elim (cases_lt b.number (length before + 1)) [
+        found = λ n is.
+            let (x, here, passes) = any-found (is_pair factor.src factor.dst) before there in
+            let (m, at) = kept_from-in 1 before x here in
+            let (from, to) = kept_from-number 1 before (kept_factor m x) at in
+            let number : 1 + length before ≡ n = let e : length before + 1 ≡ n = cc in omega (arith, e) in
+            let early : IsIn (kept_factor m x) (kept_from 1 (before ++ factor ∷ rest)) =
+            rw split (is_in-left (kept_factor m x) (kept_from 1 before) (kept_behind before factor rest) at) in
+            let late : IsIn (last_kept before factor) (kept_from 1 (before ++ factor ∷ rest)) =
+            rw split (is_in-right (last_kept before factor) (kept_from 1 before) (kept_behind before factor rest) (inl refl)) in
+            (kept_factor m x, last_kept before factor, record { earlier = early; later = late; same = is_pair-number factor.src factor.dst x passes; before = to }, number);
+        least_of = λ a b repeat. (
+          length before + 1,
+          refl,
+          elim (cases_lt b.number (length before + 1)) [
             | inl small ↦ absurd (unique a b (first-repeat before factor rest a b repeat small))
             | inr large ↦ large
-          ]);
-        })
+          ],
+        );
+      })
       | inr none ↦ rw none (
           let again = append_assoc before (factor ∷ []) rest in
           let P : List Factor → Type 0 = λ all. IsLeastRepeat (kept_from 1 all) (repeat_behind (before ++ factor ∷ []) rest) in
           let Q : List Factor → Type 0 = λ all. (x : Factor) → IsIn x all → x.src < 4294967296 in
           subst P again
           (repeat_behind-least (before ++ factor ∷ []) rest (subst Q (sym again) ranged)
-            (alone before factor (ranged factor (is_in-right factor before (factor ∷ rest) (inl refl))) (λ x here. ranged x (is_in-left x before (factor ∷ rest) here)) unique none)))
+          (alone before factor (ranged factor (is_in-right factor before (factor ∷ rest) (inl refl))) (λ x here. ranged x (is_in-left x before (factor ∷ rest) here)) unique none)))
     ]
 
 -- the first repeat of a file is the least

@@ -86,13 +86,13 @@ find-filter p q [] implies = refl
 find-filter p q (x ∷ xs) implies =
     elim (cases_Bool (q x)) [
       | inl kept ↦ rw kept (elim (cases_Bool (p x)) [
-          | inl passes ↦ rw passes refl
-          | inr fails ↦ rw fails (find-filter p q xs implies)
-        ])
+        | inl passes ↦ rw passes refl
+        | inr fails ↦ rw fails (find-filter p q xs implies)
+      ])
       | inr gone ↦ elim (cases_Bool (p x)) [
-          | inl passes ↦ let kept = implies x passes in absurd (cc)
-          | inr fails ↦ rw (gone, fails) (find-filter p q xs implies)
-        ]
+        | inl passes ↦ let kept = implies x passes in absurd (cc)
+        | inr fails ↦ rw (gone, fails) (find-filter p q xs implies)
+      ]
     ]
 
 -- a member of what passes a filter
@@ -101,9 +101,9 @@ is_in-filter p [] x here = absurd here
 is_in-filter p (y ∷ ys) x here =
     elim (cases_Bool (p y)) [
       | inl kept ↦ elim (rw kept at here) [
-          | inl same ↦ (inl same, ap p same ∙ kept)
-          | inr there ↦ let (later, passes) = is_in-filter p ys x there in (inr later, passes)
-        ]
+        | inl same ↦ (inl same, ap p same ∙ kept)
+        | inr there ↦ let (later, passes) = is_in-filter p ys x there in (inr later, passes)
+      ]
       | inr gone ↦ let (later, passes) = is_in-filter p ys x (rw gone at here) in (inr later, passes)
     ]
 

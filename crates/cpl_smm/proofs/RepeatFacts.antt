@@ -120,11 +120,11 @@ least_behind-least first [] few up = record {
     alone : (a b : KeptFactor) → IsRepeat (first ∷ []) a b → ⊥
     alone a b repeat = elim repeat.earlier [
       | inl one ↦ elim repeat.later [
-          | inl other ↦
-              let same : a.number ≡ b.number = ap (λ (f : KeptFactor). f.number) (one ∙ sym other) in
-              omega (arith, repeat.before, same)
-          | inr none ↦ none
-        ]
+        | inl other ↦
+            let same : a.number ≡ b.number = ap (λ (f : KeptFactor). f.number) (one ∙ sym other) in
+            omega (arith, repeat.before, same)
+        | inr none ↦ none
+      ]
       | inr none ↦ none
     ]
 least_behind-least first (factor ∷ factors) few up =
@@ -141,30 +141,30 @@ least_behind-least first (factor ∷ factors) few up =
       ];
       least_of = λ a b repeat. elim repeat.earlier [
         | inl one ↦ elim repeat.later [
-            | inl other ↦
-                let same : a.number ≡ b.number = ap (λ (f : KeptFactor). f.number) (one ∙ sym other) in
-                absurd (omega (arith, repeat.before, same))
-            | inr there ↦
-                let from : rank factor ≤ rank b = at_least b there in
-                let (above, small) = Climbs-member (rank first) (factor ∷ factors) b (up.0, up.1, up.2) there in
-                let pair : a.pair ≡ first.pair = ap (λ (f : KeptFactor). f.pair) one in
-                let same : factor.pair ≡ first.pair = omega (arith, from, small, pair, repeat.same, up.0, up.1) in
-                let number : factor.number ≤ b.number = omega (arith, from, small, pair, repeat.same, same) in
-                let (n, is, less) = lesser-first factor.number (least_behind None factor.pair factors) in
-                let repeats : repeat_number first.pair factor ≡ Some factor.number = rw (eq-eqb factor.pair first.pair same) refl in
-                (n, next ∙ ap (λ r. lesser r (least_behind None factor.pair factors)) repeats ∙ is, omega (arith, less, number))
-          ]
+          | inl other ↦
+              let same : a.number ≡ b.number = ap (λ (f : KeptFactor). f.number) (one ∙ sym other) in
+              absurd (omega (arith, repeat.before, same))
+          | inr there ↦
+              let from : rank factor ≤ rank b = at_least b there in
+              let (above, small) = Climbs-member (rank first) (factor ∷ factors) b (up.0, up.1, up.2) there in
+              let pair : a.pair ≡ first.pair = ap (λ (f : KeptFactor). f.pair) one in
+              let same : factor.pair ≡ first.pair = omega (arith, from, small, pair, repeat.same, up.0, up.1) in
+              let number : factor.number ≤ b.number = omega (arith, from, small, pair, repeat.same, same) in
+              let (n, is, less) = lesser-first factor.number (least_behind None factor.pair factors) in
+              let repeats : repeat_number first.pair factor ≡ Some factor.number = rw (eq-eqb factor.pair first.pair same) refl in
+              (n, next ∙ ap (λ r. lesser r (least_behind None factor.pair factors)) repeats ∙ is, omega (arith, less, number))
+        ]
         | inr there ↦ elim repeat.later [
-            | inl other ↦
-                let (above, small) = Climbs-member (rank first) (factor ∷ factors) a (up.0, up.1, up.2) there in
-                let pair : b.pair ≡ first.pair = ap (λ (f : KeptFactor). f.pair) other in
-                let number : b.number ≡ first.number = ap (λ (f : KeptFactor). f.number) other in
-                absurd (omega (arith, above, repeat.before, repeat.same, pair, number))
-            | inr later ↦
-                let (m, is, less) = rest.least_of a b (record { earlier = there; later = later; same = repeat.same; before = repeat.before }) in
-                let (n, both, under) = lesser-second (repeat_number first.pair factor) m in
-                (n, next ∙ ap (lesser (repeat_number first.pair factor)) is ∙ both, omega (arith, less, under))
-          ]
+          | inl other ↦
+              let (above, small) = Climbs-member (rank first) (factor ∷ factors) a (up.0, up.1, up.2) there in
+              let pair : b.pair ≡ first.pair = ap (λ (f : KeptFactor). f.pair) other in
+              let number : b.number ≡ first.number = ap (λ (f : KeptFactor). f.number) other in
+              absurd (omega (arith, above, repeat.before, repeat.same, pair, number))
+          | inr later ↦
+              let (m, is, less) = rest.least_of a b (record { earlier = there; later = later; same = repeat.same; before = repeat.before }) in
+              let (n, both, under) = lesser-second (repeat_number first.pair factor) m in
+              (n, next ∙ ap (lesser (repeat_number first.pair factor)) is ∙ both, omega (arith, less, under))
+        ]
       ];
     }
   where

@@ -54,8 +54,12 @@ take-row dst low (factor ∷ factors) up =
           ∙ take-first (dst + 1) (factor.pair - 1) (factor ∷ factors) (omega (arith, above)) (omega (arith, up.0), up.1))
       | inr upto ↦
           let less : suc (count_upto (dst + 1) factors) - suc (count_upto dst factors) ≡ count_upto (dst + 1) factors - count_upto dst factors = omega arith in
-          rw (count_upto-here dst factor factors upto, count_upto-here (dst + 1) factor factors (omega (arith, upto)), less,
-            ne_eqb (dst_of factor) (dst + 1) (λ e. omega (arith, upto, e)))
+          rw (
+            count_upto-here dst factor factors upto,
+            count_upto-here (dst + 1) factor factors (omega (arith, upto)),
+            less,
+            ne_eqb (dst_of factor) (dst + 1) (λ e. omega (arith, upto, e)),
+          )
           (take-row dst factor.pair factors up.1)
     ]
 
@@ -110,17 +114,17 @@ row-range dst (suc n) a low (factor ∷ factors) entry_at from up within at =
       | inl same ↦
           let here : entry_at a ≡ Some (entry_of factor) = at a (omega arith) (omega arith) ∙ rw (eq-eqb factor.pair (dst * 4294967296 + a) same) refl in
           rw here (ap (λ es. entry_of factor ∷ es)
-            (row-range dst n (a + 1) factor.pair factors entry_at (omega (arith, same)) up.1
-              (λ other there. let few = within other (inr there) in omega (arith, few))
-              (λ src more less.
-                at src (omega arith) (omega arith) ∙ rw (ne_eqb factor.pair (dst * 4294967296 + src) (λ e. omega (arith, e, same, more))) refl)))
+          (row-range dst n (a + 1) factor.pair factors entry_at (omega (arith, same)) up.1
+          (λ other there. let few = within other (inr there) in omega (arith, few))
+          (λ src more less.
+          at src (omega arith) (omega arith) ∙ rw (ne_eqb factor.pair (dst * 4294967296 + src) (λ e. omega (arith, e, same, more))) refl)))
       | inr other ↦
           let higher : Ascends (dst * 4294967296 + a) (factor ∷ factors) = (omega (arith, from, up.0, other), up.1) in
           let none : entry_at a ≡ None =
-                at a (omega arith) (omega arith) ∙ ap (option_map entry_of) (Ascends-find_none (dst * 4294967296 + a) (dst * 4294967296 + a) (factor ∷ factors) (omega arith) higher) in
+          at a (omega arith) (omega arith) ∙ ap (option_map entry_of) (Ascends-find_none (dst * 4294967296 + a) (dst * 4294967296 + a) (factor ∷ factors) (omega arith) higher) in
           rw none (row-range dst n (a + 1) (low + 1) (factor ∷ factors) entry_at (omega (arith, from)) (omega (arith, from, up.0, other), up.1)
-            (λ one there. let few = within one there in omega (arith, few))
-            (λ src more less. at src (omega arith) (omega arith)))
+          (λ one there. let few = within one there in omega (arith, few))
+          (λ src more less. at src (omega arith) (omega arith)))
     ]
 
 -- what is found among factors, and among those that are kept
@@ -135,7 +139,7 @@ find-kept n src dst (factor ∷ factors) small ranged =
           rw (here, eq-eqb (pair_number factor.dst factor.src) (pair_number dst src) same) (ap (λ s. Some (s, factor.weight)) source)
       | inr other ↦
           let differs = ne_eqb (pair_number factor.dst factor.src) (pair_number dst src)
-                (λ e. false≢true (sym other ∙ is_pair-from src dst factor small (ranged factor (inl refl)) e)) in
+          (λ e. false≢true (sym other ∙ is_pair-from src dst factor small (ranged factor (inl refl)) e)) in
           rw (other, differs) (find-kept (n + 1) src dst factors small (λ x there. ranged x (inr there)))
     ]
 
@@ -147,12 +151,12 @@ entry_between-sorted factors sorted dst src small ranged moved up =
     let p = λ (factor : KeptFactor). factor.pair == pair_number dst src in
     find-kept 1 src dst factors small ranged
     ∙ ap (option_map entry_of) (
-      find-permutation p (kept_from 1 factors) sorted moved
-        (λ x y here there passes other. Ascends-unique 0 sorted x y up here there (eqb-true x.pair (pair_number dst src) passes ∙ sym (eqb-true y.pair (pair_number dst src) other)))
-      ∙ sym (find-filter p (is_dst dst) sorted (λ x passes.
-          let same = eqb-true x.pair (pair_number dst src) passes in
-          let here : dst_of x ≡ dst = omega (arith, same, small) in
-          eq-eqb (dst_of x) dst here))
+    find-permutation p (kept_from 1 factors) sorted moved
+    (λ x y here there passes other. Ascends-unique 0 sorted x y up here there (eqb-true x.pair (pair_number dst src) passes ∙ sym (eqb-true y.pair (pair_number dst src) other)))
+    ∙ sym (find-filter p (is_dst dst) sorted (λ x passes.
+    let same = eqb-true x.pair (pair_number dst src) passes in
+    let here : dst_of x ≡ dst = omega (arith, same, small) in
+    eq-eqb (dst_of x) dst here))
     )
 
 -- ---- rows of a file
@@ -183,11 +187,11 @@ unfolding row_of
 row_in-file src_cells factors sorted dst small ranged moved up =
     let row = filter (is_dst dst) sorted in
     let member : (k : KeptFactor) → IsIn k row → (dst * 4294967296 < k.pair) × (k.pair < dst * 4294967296 + (1 + src_cells)) =
-          λ k here.
-            let (there, passes) = is_in-filter (is_dst dst) sorted k here in
-            let same = eqb-true (dst_of k) dst passes in
-            let (from, to) = sorted-source src_cells factors sorted k small ranged moved there in
-            (omega (arith, same, from), omega (arith, same, to)) in
+    λ k here.
+    let (there, passes) = is_in-filter (is_dst dst) sorted k here in
+    let same = eqb-true (dst_of k) dst passes in
+    let (from, to) = sorted-source src_cells factors sorted k small ranged moved there in
+    (omega (arith, same, from), omega (arith, same, to)) in
     row-range dst src_cells 1 (dst * 4294967296) row (entry_between factors dst) (omega arith)
     (Ascends-raise 0 (dst * 4294967296) row (Ascends-filter (is_dst dst) 0 sorted up) (λ k here. (member k here).0))
     (λ k here. (member k here).1)
@@ -242,7 +246,7 @@ row_in-row src_cells factors dst sorted =
       few =
           let count : length (row_in factors dst) ≡ length row = length-map row entry_of in
           let few = source-few dst (dst * 4294967296) 0 src_cells row (λ k here. (same k here, (member k here).within))
-                (Ascends-raise 0 (dst * 4294967296) row up (λ k here. let is = same k here in let from = (member k here).from_one in omega (arith, is, from)))
-                (omega arith) (omega arith) in
+          (Ascends-raise 0 (dst * 4294967296) row up (λ k here. let is = same k here in let from = (member k here).from_one in omega (arith, is, from)))
+          (omega arith) (omega arith) in
           omega (arith, count, few);
     }

@@ -70,17 +70,20 @@ climbs-from : (low : ℕ) (factors : List KeptFactor) → ((d : KeptFactor) → 
     → ((k : ℕ) (d : KeptFactor) → suc k < length factors → NotBelow (get_or factors k d) (get_or factors (suc k) d)) → Climbs low factors
 unfolding Climbs
 climbs-from low [] first few distinct next = tt
-climbs-from low (factor ∷ factors) first few distinct next = (first factor (omega arith), few factor (inl refl),
+climbs-from low (factor ∷ factors) first few distinct next = (
+  first factor (omega arith),
+  few factor (inl refl),
   climbs-from (rank factor) factors
-  (λ d some.
-    let (pair, number) = next 0 d (omega (arith, some)) in
-    let other = first-of (λ k. same_number factor k ≡ false) factors d some (IsDistinct-head same_number factor factors distinct) in
-    let differ : factor.number ≡ (get_or factors 0 d).number → ⊥ = λ e. false≢true (sym other ∙ eq-eqb factor.number (get_or factors 0 d).number e) in
-    elim (cases_eq factor.pair (get_or factors 0 d).pair) [
-      | inl same ↦ let less = number same in omega (arith, same, less, differ)
-      | inr more ↦ let small = few factor (inl refl) in omega (arith, pair, more, small)
-    ])
-  (λ k here. few k (inr here)) (IsDistinct-tail same_number factor factors distinct) (λ k d more. next (suc k) d (omega (arith, more))))
+      (λ d some.
+      let (pair, number) = next 0 d (omega (arith, some)) in
+      let other = first-of (λ k. same_number factor k ≡ false) factors d some (IsDistinct-head same_number factor factors distinct) in
+      let differ : factor.number ≡ (get_or factors 0 d).number → ⊥ = λ e. false≢true (sym other ∙ eq-eqb factor.number (get_or factors 0 d).number e) in
+      elim (cases_eq factor.pair (get_or factors 0 d).pair) [
+        | inl same ↦ let less = number same in omega (arith, same, less, differ)
+        | inr more ↦ let small = few factor (inl refl) in omega (arith, pair, more, small)
+      ])
+      (λ k here. few k (inr here)) (IsDistinct-tail same_number factor factors distinct) (λ k d more. next (suc k) d (omega (arith, more))),
+)
 
 -- what the sort of a file's factors gives
 pub record IsSortOf (factors : List Factor) (sorted : List KeptFactor) : Type 0 where
@@ -115,31 +118,33 @@ sorted-climbs : (src_cells dst_cells : ℕ) (factors : List Factor) (sorted : Li
 sorted-climbs src_cells dst_cells factors sorted ranged sort =
     climbs-from 0 sorted
     (λ d some.
-      let (from, to) = sorted-number factors sorted (get_or sorted 0 d) sort.moved (first-in sorted d some) in omega (arith, from))
+    let (from, to) = sorted-number factors sorted (get_or sorted 0 d) sort.moved (first-in sorted d some) in omega (arith, from))
     (λ k here. let (from, to) = sorted-number factors sorted k sort.moved here in let few = ranged.few in omega (arith, to, few))
     (IsDistinct-IsPermutation same_number same_number-flips (kept_from 1 factors) sorted sort.moved (kept_from-distinct 1 factors))
     (λ k d more.
-      let P : ℕ → Type 0 = λ n. NotBelow (get_or sorted k d) (get_or sorted n d) in
-      let next : k + 1 < length sorted = omega (arith, more) in
-      subst P (add-one k) (
-        sort.pairs k (k + 1) d (omega arith) next,
-        ties_still_rise (λ (k : KeptFactor). k.number) (λ (k : KeptFactor). k.pair) (kept_from 1 factors) sorted (kept_from-sorted 1 factors) sort.stable k d next
-      ))
+    let P : ℕ → Type 0 = λ n. NotBelow (get_or sorted k d) (get_or sorted n d) in
+    let next : k + 1 < length sorted = omega (arith, more) in
+    subst P (add-one k) (
+      sort.pairs k (k + 1) d (omega arith) next,
+      ties_still_rise (λ (k : KeptFactor). k.number) (λ (k : KeptFactor). k.pair) (kept_from 1 factors) sorted (kept_from-sorted 1 factors) sort.stable k d next,
+    ))
 
 -- factors that climb ascend, where none has the cells of an earlier one
 climbs-ascend : (low high : ℕ) (factors : List KeptFactor) → Climbs low factors → ((k : KeptFactor) → IsIn k factors → high < k.pair)
     → ((a b : KeptFactor) → IsRepeat factors a b → ⊥) → Ascends high factors
 unfolding Climbs Ascends
 climbs-ascend low high [] up above unique = tt
-climbs-ascend low high (factor ∷ factors) up above unique = (above factor (inl refl),
+climbs-ascend low high (factor ∷ factors) up above unique = (
+  above factor (inl refl),
   climbs-ascend (rank factor) factor.pair factors up.2
-  (λ k there.
-    let (more, few) = Climbs-member (rank factor) factors k up.2 there in
-    elim (cases_lt factor.pair k.pair) [
-      | inl less ↦ less
-      | inr same ↦ absurd (unique factor k (record { earlier = inl refl; later = inr there; same = omega (arith, more, few, same); before = omega (arith, more, few, same) }))
-    ])
-  (λ a b repeat. unique a b (record { earlier = inr repeat.earlier; later = inr repeat.later; same = repeat.same; before = repeat.before })))
+      (λ k there.
+      let (more, few) = Climbs-member (rank factor) factors k up.2 there in
+      elim (cases_lt factor.pair k.pair) [
+        | inl less ↦ less
+        | inr same ↦ absurd (unique factor k (record { earlier = inl refl; later = inr there; same = omega (arith, more, few, same); before = omega (arith, more, few, same) }))
+      ])
+      (λ a b repeat. unique a b (record { earlier = inr repeat.earlier; later = inr repeat.later; same = repeat.same; before = repeat.before })),
+)
 
 -- the least repeat among sorted factors is the first of the file
 pub least_repeat-file : (src_cells dst_cells : ℕ) (factors : List Factor) (sorted : List KeptFactor) → AreFactors src_cells dst_cells factors → IsSortOf factors sorted
@@ -159,18 +164,18 @@ sorted-ascends src_cells dst_cells factors sorted ranged sort none =
     let least = least_repeat-least 0 sorted climbs in
     let cells = ranged.cells in
     let pair : (k : KeptFactor) → IsIn k sorted → IsRanged src_cells k = λ k here.
-          let (x, there, is) = sorted-of factors sorted k sort.moved here in
-          let factor = ranged.each x there in
-          let from = factor.src_from in
-          let to = factor.src_within in
-          let same : k.pair ≡ pair_number x.dst x.src = ap (λ (k : KeptFactor). k.pair) is in
-          let weight : x.weight ≡ k.weight = sym (ap (λ (k : KeptFactor). k.weight) is) in
-          let P : _ → Type 0 = λ w. IsWeight w in
-          record {
-            from_one = omega (arith, same, from, to, cells);
-            within = omega (arith, same, from, to, cells);
-            weight = subst P weight factor.weight;
-          } in
+    let (x, there, is) = sorted-of factors sorted k sort.moved here in
+    let factor = ranged.each x there in
+    let from = factor.src_from in
+    let to = factor.src_within in
+    let same : k.pair ≡ pair_number x.dst x.src = ap (λ (k : KeptFactor). k.pair) is in
+    let weight : x.weight ≡ k.weight = sym (ap (λ (k : KeptFactor). k.weight) is) in
+    let P : _ → Type 0 = λ w. IsWeight w in
+    record {
+      from_one = omega (arith, same, from, to, cells);
+      within = omega (arith, same, from, to, cells);
+      weight = subst P weight factor.weight;
+    } in
     record {
       ascend = climbs-ascend 0 0 sorted climbs
           (λ k here. let ranged_here = pair k here in let from = ranged_here.from_one in omega (arith, from))

@@ -3,7 +3,6 @@
 ghost use Rattle.std.specs.Prelude.{◌≡◌};
 ghost use Rattle.cpl_smm.specs.Kept.{lesser, least_repeat, repeat_number};
 
-
 /// A factor, its two cells as one number.
 #[derive(Clone, Copy)]
 pub(crate) struct KeptFactor {

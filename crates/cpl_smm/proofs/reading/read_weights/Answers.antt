@@ -20,31 +20,35 @@ pub returns-in-Some : goal.returns-in-Some
 returns-in-Some c =
     let sorted = c.sort_factors.new.factors.items in
     let sort = sort-of (judged_of c.args.src_cells c.args.dst_cells c.args.bytes.now).factors c.in_ok-reading.reading.factors.items sorted
-          c.in_ok-reading.ensures.factors c.sort_factors.ensures.moved c.in_ok-sort_factors.ensures.sorted c.sort_factors.ensures.stable in
+    c.in_ok-reading.ensures.factors c.sort_factors.ensures.moved c.in_ok-sort_factors.ensures.sorted c.sort_factors.ensures.stable in
     let least : least_repeat sorted ≡ Some c.in-Some.n = sym (c.least_repeat.ensures ∙ ap least_repeat c.as_slice.ensures.value) ∙ c.in-Some.is in
-    record { answer = record {
-      value = tt;
-      fault = inr (file-twice c.args.src_cells c.args.dst_cells c.args.bytes.now sorted c.in-Some.n (omega arith) sort least);
-    } }
+    record {
+      answer = record {
+        value = tt;
+        fault = inr (file-twice c.args.src_cells c.args.dst_cells c.args.bytes.now sorted c.in-Some.n (omega arith) sort least);
+      };
+    }
 
 pub returns-in-Some-fault : goal.returns-in-Some-fault
 returns-in-Some-fault c =
     let sorted = c.sort_factors.new.factors.items in
     let sort = sort-of (judged_of c.args.src_cells c.args.dst_cells c.args.bytes.now).factors c.in_ok-reading.reading.factors.items sorted
-          c.in_ok-reading.ensures.factors c.sort_factors.ensures.moved c.in_ok-sort_factors.ensures.sorted c.sort_factors.ensures.stable in
+    c.in_ok-reading.ensures.factors c.sort_factors.ensures.moved c.in_ok-sort_factors.ensures.sorted c.sort_factors.ensures.stable in
     let least : least_repeat sorted ≡ None = sym (c.least_repeat.ensures ∙ ap least_repeat c.as_slice.ensures.value) ∙ c.in_default.is in
-    record { answer = record {
-      value = tt;
-      fault = inr (file-fault c.args.src_cells c.args.dst_cells c.args.bytes.now sorted c.in-Some-fault.fault (omega arith) sort least
-          (sym c.in_ok-reading.ensures.fault ∙ c.in-Some-fault.is));
-    } }
+    record {
+      answer = record {
+        value = tt;
+        fault = inr (file-fault c.args.src_cells c.args.dst_cells c.args.bytes.now sorted c.in-Some-fault.fault (omega arith) sort least
+            (sym c.in_ok-reading.ensures.fault ∙ c.in-Some-fault.is));
+      };
+    }
 
 pub of-requires : goal.of-requires
 of-requires c =
     let factors = (judged_of c.args.src_cells c.args.dst_cells c.args.bytes.now).factors in
     let sorted = c.sort_factors.new.factors.items in
     let sort = sort-of factors c.in_ok-reading.reading.factors.items sorted
-          c.in_ok-reading.ensures.factors c.sort_factors.ensures.moved c.in_ok-sort_factors.ensures.sorted c.sort_factors.ensures.stable in
+    c.in_ok-reading.ensures.factors c.sort_factors.ensures.moved c.in_ok-sort_factors.ensures.sorted c.sort_factors.ensures.stable in
     let least : least_repeat sorted ≡ None = sym (c.least_repeat.ensures ∙ ap least_repeat c.as_slice.ensures.value) ∙ c.in_default.is in
     let P : List KeptFactor → Type 0 = λ xs. AreSorted c.args.src_cells xs in
     subst P (sym c.as_slice-in-None.ensures.value)
@@ -55,12 +59,14 @@ returns c =
     let factors = (judged_of c.args.src_cells c.args.dst_cells c.args.bytes.now).factors in
     let sorted = c.sort_factors.new.factors.items in
     let sort = sort-of factors c.in_ok-reading.reading.factors.items sorted
-          c.in_ok-reading.ensures.factors c.sort_factors.ensures.moved c.in_ok-sort_factors.ensures.sorted c.sort_factors.ensures.stable in
+    c.in_ok-reading.ensures.factors c.sort_factors.ensures.moved c.in_ok-sort_factors.ensures.sorted c.sort_factors.ensures.stable in
     let least : least_repeat sorted ≡ None = sym (c.least_repeat.ensures ∙ ap least_repeat c.as_slice.ensures.value) ∙ c.in_default.is in
-    record { answer = record {
-      value =
-          file-table c.args.src_cells c.args.dst_cells c.args.bytes.now sorted (omega arith) sort least (sym c.in_ok-reading.ensures.fault ∙ c.in-None.is)
-          ∙ ap (λ (xs : List KeptFactor). Ok (sorted_table c.args.src_cells c.args.dst_cells xs)) (sym c.as_slice-in-None.ensures.value)
-          ∙ ap Ok (sym c.in_ok-weights-in-None.ensures);
-      fault = tt;
-    } }
+    record {
+      answer = record {
+        value =
+            file-table c.args.src_cells c.args.dst_cells c.args.bytes.now sorted (omega arith) sort least (sym c.in_ok-reading.ensures.fault ∙ c.in-None.is)
+            ∙ ap (λ (xs : List KeptFactor). Ok (sorted_table c.args.src_cells c.args.dst_cells xs)) (sym c.as_slice-in-None.ensures.value)
+            ∙ ap Ok (sym c.in_ok-weights-in-None.ensures);
+        fault = tt;
+      };
+    }

@@ -12,10 +12,10 @@ loop-dst-preserved c =
     let place : c.past-place.result ≡ count_upto dst factors = c.past-place.ensures.value ∙ sym (c.loop-dst.invariant.on dst (omega arith)) in
     record {
       starts =
-        c.in_ok-push.ensures.items
-        ∙ ap (λ (xs : List ℕ). xs ++ c.past-place.result ∷ []) c.loop-dst.invariant.starts
-        ∙ ap (λ n. map (λ d. count_upto d factors) (range_with_len 0 dst) ++ n ∷ []) place
-        ∙ sym (map-range_with_len_more (λ d. count_upto d factors) 0 dst dst (omega arith));
+          c.in_ok-push.ensures.items
+          ∙ ap (λ (xs : List ℕ). xs ++ c.past-place.result ∷ []) c.loop-dst.invariant.starts
+          ∙ ap (λ n. map (λ d. count_upto d factors) (range_with_len 0 dst) ++ n ∷ []) place
+          ∙ sym (map-range_with_len_more (λ d. count_upto d factors) 0 dst dst (omega arith));
       within = c.past-place.ensures.within;
       on = λ d more. count_upto-on dst d factors (omega arith) ∙ ap (λ n. n + count_upto d (drop n factors)) (sym place);
     }

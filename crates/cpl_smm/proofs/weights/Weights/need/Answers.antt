@@ -27,9 +27,9 @@ returns c =
     let all : take c.loop-k.k cells ≡ cells = take_all c.loop-k.k cells (omega arith) in
     let count : length marks - 1 ≡ table.src_cells = omega (arith, c.loop-k.invariant.count) in
     let needed : (src : ℕ) → is_marked marks src ≡ is_needed table c.args.dst.now c.args.pet src =
-          λ src. c.loop-k.invariant.marked src ∙ ap (list_any (λ dst. has_source src (row_at table dst))) all in
+    λ src. c.loop-k.invariant.marked src ∙ ap (list_any (λ dst. has_source src (row_at table dst))) all in
     let same : c.of.result ≡ filter (is_needed table c.args.dst.now c.args.pet) (range_with_len 1 table.src_cells) =
-          c.of.ensures ∙ c.in_ok-cells.ensures
-          ∙ ap (λ (ms : List Bool). filter (is_marked ms) (range_with_len 1 (length ms - 1))) c.as_slice.ensures.value
-          ∙ (λ i. filter (λ src. needed src i) (range_with_len 1 (count i))) in
+    c.of.ensures ∙ c.in_ok-cells.ensures
+    ∙ ap (λ (ms : List Bool). filter (is_marked ms) (range_with_len 1 (length ms - 1))) c.as_slice.ensures.value
+    ∙ (λ i. filter (λ src. needed src i) (range_with_len 1 (count i))) in
     λ i. record { pet = c.args.pet; cells = same i }

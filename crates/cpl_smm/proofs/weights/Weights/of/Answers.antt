@@ -15,7 +15,7 @@ invariant_of-result c =
     let rows = rows_between-rows c.args.dst_cells factors c.requires.ascend in
     let P : List (List Entry) → Type 0 = λ rows. All (IsRow c.args.src_cells) rows in
     let each : P (map (row_in factors) (range_with_len 1 c.args.dst_cells)) =
-          All-map (IsRow c.args.src_cells) (row_in factors) (range_with_len 1 c.args.dst_cells) (λ k d few. row_in-row c.args.src_cells factors _ c.requires) in
+    All-map (IsRow c.args.src_cells) (row_in factors) (range_with_len 1 c.args.dst_cells) (λ k d few. row_in-row c.args.src_cells factors _ c.requires) in
     let starts = c.in_ok-starts_of.ensures in
     let entries = c.in_ok-entries_of.ensures in
     let Q : List ℕ → Type 0 = λ starts. AreStarts starts c.args.dst_cells (length c.in_ok-entries_of.field-0.items) in

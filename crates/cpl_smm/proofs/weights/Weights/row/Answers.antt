@@ -24,8 +24,8 @@ returns-clause-value c =
 pub returns-clause-row : goal.returns-clause-row
 returns-clause-row c =
     let same =
-          c.row_between.ensures
-          ∙ (λ i. row_between (c.as_slice.ensures.value i) (c.as_slice-2.ensures.value i) (c.args.dst - 1))
-          ∙ row_at-kept c.self.inside c.args.self.now c.args.dst c.self.view_is c.requires.0 c.requires.1 in
+    c.row_between.ensures
+    ∙ (λ i. row_between (c.as_slice.ensures.value i) (c.as_slice-2.ensures.value i) (c.args.dst - 1))
+    ∙ row_at-kept c.self.inside c.args.self.now c.args.dst c.self.view_is c.requires.0 c.requires.1 in
     let P : List Entry → Type 0 = λ row. IsRow c.args.self.now.src_cells row in
     subst P (sym same) (row_at-row c.self.inside c.args.self.now c.args.dst c.self.invariant c.self.view_is c.requires.0 c.requires.1)
