@@ -121,12 +121,12 @@ fn reader(alloc: Global, bytes: &[u8]) -> Reader<&[u8]>
 }
 
 /// Reads the next record, if there is one. Over bytes in memory the reader fails for want of memory alone.
-fn reads_on(reader: &mut Reader<&[u8]>, record: &mut ByteRecord) -> Result<bool, WeightFault>
+fn reads_on(reader: &mut Reader<&[u8]>, csv_record: &mut ByteRecord) -> Result<bool, WeightFault>
     requires { IsReading reader.old }
-    ensures ok { IfOk result (ReadsOn reader.old reader.new (fields_of record.new)) }
+    ensures ok { IfOk result (ReadsOn reader.old reader.new (fields_of csv_record.new)) }
     ensures err { IfErr result (λ fault. fault ≡ WeightFault.Memory) }
 {
-    let Ok(found) = reader.read_byte_record(record) else {
+    let Ok(found) = reader.read_byte_record(csv_record) else {
         return Err(WeightFault::Memory);
     };
     Ok(found)

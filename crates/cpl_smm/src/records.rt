@@ -33,14 +33,14 @@ pub(crate) fn kept_factor(
     src_cells: u32,
     dst_cells: u32,
     n: u64,
-    record: &ByteRecord,
+    csv_record: &ByteRecord,
 ) -> Result<KeptFactor, WeightFault>
-    ensures { result ≡ kept_answer n (record_factor src_cells dst_cells n (fields_of record.now)) }
+    ensures { result ≡ kept_answer n (record_factor src_cells dst_cells n (fields_of csv_record.now)) }
 {
     if n > MOST_RECORDS {
         return Err(WeightFault::TooManyWeights { n });
     }
-    let Some(fields) = read_fields(record) else {
+    let Some(fields) = read_fields(csv_record) else {
         return Err(WeightFault::BadRecord { n });
     };
     if !is_cell(src_cells, fields.src) || !is_cell(dst_cells, fields.dst) {
@@ -64,10 +64,10 @@ fn is_cell(cells: u32, s: u64) -> bool
 }
 
 /// What a record of just three fields of their forms says.
-fn read_fields(record: &ByteRecord) -> Option<Fields>
-    ensures { result ≡ fields_in (fields_of record.now) }
+fn read_fields(csv_record: &ByteRecord) -> Option<Fields>
+    ensures { result ≡ fields_in (fields_of csv_record.now) }
 {
-    let (src, dst, weight) = three(record)?;
+    let (src, dst, weight) = three(csv_record)?;
     let src = number_word(src)?;
     let dst = number_word(dst)?;
     let weight = weight_in_range(weight)?;
@@ -75,11 +75,11 @@ fn read_fields(record: &ByteRecord) -> Option<Fields>
 }
 
 /// The fields of a record that has just three.
-fn three(record: &ByteRecord) -> Option<(&[u8], &[u8], &[u8])>
-    ensures { option_map (λ f. (f.0.now, f.1.now, f.2.now)) result ≡ three_of (fields_of record.now) }
+fn three(csv_record: &ByteRecord) -> Option<(&[u8], &[u8], &[u8])>
+    ensures { option_map (λ f. (f.0.now, f.1.now, f.2.now)) result ≡ three_of (fields_of csv_record.now) }
 {
-    if record.len() != 3 {
+    if csv_record.len() != 3 {
         return None;
     }
-    Some((record.get(0)?, record.get(1)?, record.get(2)?))
+    Some((csv_record.get(0)?, csv_record.get(1)?, csv_record.get(2)?))
 }

@@ -19,7 +19,7 @@ loop-number-init c = record {
 pub loop-number-preserved : goal.loop-number-preserved
 loop-number-preserved c =
     let n = c.loop-number.number in
-    let fields = fields_of c.reads_on.new.record in
+    let fields = fields_of c.reads_on.new.csv_record in
     let src_cells = c.args.src_cells in
     let dst_cells = c.args.dst_cells in
     let more = judged_from src_cells dst_cells (n + 1) (records_left c.reads_on.new.reader) in
