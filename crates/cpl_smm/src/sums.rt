@@ -1,6 +1,6 @@
 //! Weighted sums of values, exact, and rounded once.
 
-ghost use Rattle.std.specs.Prelude.{◌≡◌, ◌^◌, ◌<◌, ◌≤◌, ◌/◌, ◌*ℤ◌, pos, All, length, unsigned_abs};
+ghost use Rattle.std.specs.Prelude.{◌≡◌, ◌^◌, ◌<◌, ◌≤◌, ◌/◌, ◌*ℤ◌, ◌≤ℤ◌, negsuc, pos, All, length, unsigned_abs};
 ghost use Rattle.cpl_base.specs.Numbers.{IsValue, clip};
 ghost use Rattle.cpl_base.specs.Rounding.{near_of};
 ghost use Rattle.cpl_smm.specs.Records.{IsWeight};
@@ -17,6 +17,9 @@ const SHIFT: i64 = 1_125_899_906_842_624;
 
 /// Half a billion, and `SHIFT` billions.
 const LIFT: i128 = 1_125_899_906_842_624_500_000_000;
+
+/// A number of whole billions; twice that, and half a billion, fit 63 bits.
+const NARROW: i64 = 4_611_686_018_000_000_000;
 
 /// A billion is this times 512.
 const ODD: u64 = 1_953_125;
@@ -60,7 +63,22 @@ fn rounded(sum: i128) -> i64
     ensures value { result ≡ clip (near_of sum (pos billion)) }
     ensures within { IsValue result }
 {
-    nearest(sum.clamp(-MOST, MOST))
+    match i64::try_from(sum) {
+        Ok(sum) if -NARROW <= sum && sum <= NARROW => nearest_narrow(sum),
+        _ => nearest(sum.clamp(-MOST, MOST)),
+    }
+}
+
+/// A sum of 63 bits in billionths, rounded to the nearest. One division by a constant.
+#[inline(always)]
+fn nearest_narrow(sum: i64) -> i64
+    requires least { negsuc 4611686017999999999 ≤ℤ sum }
+    requires most { sum ≤ℤ pos 4611686018000000000 }
+    ensures value { result ≡ near_of sum (pos billion) }
+    ensures within { unsigned_abs result ≤ 4611686018 }
+{
+    let lifted = (sum + 500_000_000 + NARROW) as u64;
+    (lifted / BILLION) as i64 - 4_611_686_018
 }
 
 /// A sum in billionths that is no greater than the greatest value is, rounded to the nearest. What is divided isn't

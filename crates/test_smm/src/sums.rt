@@ -139,7 +139,7 @@ fn longest(rt: HostRuntime) -> Result<(), Fail> {
         Some(1_000_000_000_000_000)
     );
     for value in values.iter_mut() {
-        *value = -*value;
+        *value = -1_000_000_000_000_000;
     }
     assert_eq!(rt;
         image_of(row.as_slice(), values.as_slice()),
