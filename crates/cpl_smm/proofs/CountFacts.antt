@@ -1,9 +1,9 @@
 -- How many of the first factors have at most a destination cell.
-use Rattle.std.proofs.Common.{◌≡◌, ◌∙◌, ℕ, zero, suc, ◌+◌, ◌/◌, ◌≤◌, ◌<◌, true, false, List, [], ◌∷◌, length, drop, map, slice_index, refl, sym, ap, inl, inr, arith}
+use Rattle.std.proofs.Common.{◌≡◌, ℕ, suc, ◌+◌, ◌≤◌, ◌<◌, List, [], ◌∷◌, length, drop, map, slice_index, refl, inl, inr, arith}
 use Rattle.std.proofs.lemmas.Bool.{cases_lt, le-leb, lt-leb}
 use Rattle.std.proofs.lemmas.List.FromFn.{get_or-map-range_with_len, length-map-range_with_len}
 use Rattle.std.specs.List.{range_with_len}
-use Rattle.cpl_smm.specs.Kept.{AreStarts, count_upto, dst_of, is_upto}
+use Rattle.cpl_smm.specs.Kept.{AreStarts, count_upto, dst_of}
 use Rattle.cpl_smm.specs.declared.entries.KeptFactor.{KeptFactor}
 
 -- a factor at most

@@ -1,12 +1,12 @@
 -- What a file says, by its sorted factors.
-use Rattle.std.proofs.Common.{◌≡◌, ◌∙◌, ℕ, ◌+◌, ◌<◌, ◌≤◌, List, [], ◌++◌, length, map, Option, None, Some, Result, Ok, Err, refl, sym, ap, arith}
+use Rattle.std.proofs.Common.{◌≡◌, ◌∙◌, ℕ, ◌<◌, List, [], length, map, Option, None, Some, Result, Ok, Err, refl, sym, ap, arith}
 use Rattle.std.proofs.lemmas.List.Sorted.{length_permutation}
 use Rattle.std.specs.List.{range_with_len}
 use Rattle.cpl_base.specs.ResultChain.{◌>>=◌}
 use Rattle.cpl_smm.specs.Files.{records_of, weights_of}
-use Rattle.cpl_smm.specs.Kept.{Judged, judged_from, judged_of, kept_from, least_repeat, sorted_table}
-use Rattle.cpl_smm.specs.Records.{Factor, most_records}
-use Rattle.cpl_smm.specs.Rows.{Table, table_of}
+use Rattle.cpl_smm.specs.Kept.{Judged, judged_of, kept_from, least_repeat, sorted_table}
+use Rattle.cpl_smm.specs.Records.{Factor}
+use Rattle.cpl_smm.specs.Rows.{table_of}
 use Rattle.cpl_smm.specs.declared.entries.KeptFactor.{KeptFactor}
 use Rattle.cpl_smm.specs.declared.fault.WeightFault.{WeightFault}
 use Rattle.cpl_smm.specs.declared.fault.WeightFault.TheVariants.{PairTwice}

@@ -1,5 +1,5 @@
 -- The factors of records up to the first that is faulty by itself, and what they say of a file.
-use Rattle.std.proofs.Common.{◌≡◌, ◌⊎◌, ◌∙◌, ℕ, zero, suc, ◌+◌, ◌*◌, ◌<◌, ◌≤◌, ◌==◌, ◌&&◌, not, Bool, true, false, if◌then◌else◌, nat_le, List, [], ◌∷◌, ◌++◌, length, Option, Some, None, Result, Ok, Err, refl, sym, ap, subst, inl, inr, arith, append_assoc, ℤ, IfOk}
+use Rattle.std.proofs.Common.{◌≡◌, ◌∙◌, ℕ, suc, ◌+◌, ◌<◌, ◌≤◌, ◌==◌, ◌&&◌, not, Bool, true, false, if◌then◌else◌, nat_le, List, [], ◌∷◌, ◌++◌, length, Option, Some, None, Result, Ok, Err, refl, sym, ap, subst, inl, inr, arith, append_assoc, ℤ}
 use Rattle.std.proofs.lemmas.Bool.{and_parts, cases_Bool, cases_lt, eq-eqb, eqb-true, false≢true, leb-true}
 use Rattle.std.proofs.lemmas.List.{append-nil}
 use Rattle.std.specs.List.{list_any}
@@ -10,11 +10,11 @@ use Rattle.cpl_base.specs.declared.value.ValFault.TheVariants.{Digits, Places, R
 use Rattle.cpl_base.proofs.NumeralsFacts.{numeral_of-bound}
 use Rattle.cpl_smm.specs.Files.{factors_with}
 use Rattle.cpl_smm.specs.Kept.{Judged, judged_from, judged_step, kept_answer, kept_factor, kept_from, pair_number}
-use Rattle.cpl_smm.specs.Records.{Factor, IsWeight, fields_from, fields_in, greatest_weight, is_cell, most_records, record_factor, three_of, value_or, weight_in_range}
+use Rattle.cpl_smm.specs.Records.{Factor, IsWeight, fields_from, fields_in, greatest_weight, is_cell, most_records, record_factor, value_or, weight_in_range}
 use Rattle.cpl_smm.specs.Rows.{is_pair}
 use Rattle.cpl_smm.specs.declared.entries.KeptFactor.{KeptFactor}
 use Rattle.cpl_smm.specs.declared.fault.WeightFault.{WeightFault}
-use Rattle.cpl_smm.specs.declared.fault.WeightFault.TheVariants.{BadRecord, IndexRange, PairTwice, TooManyWeights, WeightRange}
+use Rattle.cpl_smm.specs.declared.fault.WeightFault.TheVariants.{BadRecord, IndexRange, PairTwice, WeightRange}
 use Rattle.cpl_smm.specs.declared.records.Fields.{Fields}
 use Rattle.cpl_smm.proofs.MemberFacts.{IsIn, is_in-either, is_in-left, is_in-right}
 use Rattle.cpl_smm.proofs.RepeatFacts.{IsLeastRepeat, IsRepeat}

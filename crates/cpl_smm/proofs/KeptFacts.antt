@@ -1,8 +1,8 @@
 -- What is kept of weights, as a table.
-use Rattle.std.proofs.Common.{◌≡◌, ◌∙◌, ℕ, ◌-◌, ◌≤◌, ◌<◌, [], length, List, arith, ap, sym, subst}
+use Rattle.std.proofs.Common.{◌≡◌, ◌∙◌, ℕ, ◌-◌, ◌≤◌, [], length, arith, ap, sym, subst}
 use Rattle.std.proofs.lemmas.List.FromFn.{get_or-map-range_with_len, length-map-range_with_len}
-use Rattle.cpl_smm.specs.Kept.{IsKept, row_between, rows_between, table_view}
-use Rattle.cpl_smm.specs.Rows.{Entry, IsRow, Table, row_at}
+use Rattle.cpl_smm.specs.Kept.{IsKept, row_between, table_view}
+use Rattle.cpl_smm.specs.Rows.{IsRow, Table, row_at}
 use Rattle.cpl_smm.specs.declared.weights.Weights.TheInside.{Inside}
 
 -- how many rows there are

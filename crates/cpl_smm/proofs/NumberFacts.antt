@@ -1,12 +1,12 @@
 -- Digits, one after another.
-use Rattle.std.proofs.Common.{◌≡◌, ◌∙◌, ℕ, zero, suc, ◌+◌, ◌*◌, ◌^◌, ◌<◌, ◌≤◌, Bool, true, false, ◌&&◌, leb, if◌then◌else◌, List, [], ◌∷◌, ◌++◌, length, take, get_or, Option, Some, None, refl, sym, ap, inl, inr, ◌-◌, arith}
+use Rattle.std.proofs.Common.{◌≡◌, ◌∙◌, ℕ, zero, suc, ◌+◌, ◌*◌, ◌^◌, ◌<◌, ◌≤◌, Bool, true, false, leb, List, [], ◌∷◌, length, take, get_or, Some, None, refl, ap, inl, inr, ◌-◌, arith}
 use Rattle.std.proofs.Math.Nat.{pow-le-pow_right, pow-suc}
-use Rattle.std.proofs.lemmas.Bool.{and_from, cases_Bool, le-leb, lt-leb}
+use Rattle.std.proofs.lemmas.Bool.{and_from, cases_Bool, le-leb}
 use Rattle.std.proofs.lemmas.Int.Digits.{digits_value_more}
 use Rattle.std.proofs.lemmas.Str.{digit_value_digit}
 use Rattle.std.specs.Char.{digit_value}
 use Rattle.std.specs.List.{list_all}
-use Rattle.cpl_base.specs.Numerals.{are_digits, is_digit, number, number_word}
+use Rattle.cpl_base.specs.Numerals.{is_digit, number, number_word}
 
 -- The first digits of a word, and the number that they write.
 pub record IsNumberOf (word : List ℕ) (i n : ℕ) : Type 0 where

@@ -2,14 +2,14 @@
 use Rattle.std.proofs.Common.{◌≡◌, ◌⊎◌, ◌∙◌, ℕ, zero, suc, ◌+◌, ◌<◌, ◌≤◌, Bool, true, false, List, [], ◌∷◌, ◌++◌, length, Option, Some, None, refl, sym, ap, inl, inr, arith, Bor, add-one}
 use Rattle.std.proofs.lemmas.Bool.{cases_Bool}
 use Rattle.csv.specs.Machine.{Read, ends_at_end, fields_after, field_after, is_end, next_record, step}
-use Rattle.csv.specs.Reading.{ReadRecord, Reached, Ready, default_config, reader_config, reader_state, reader_trim, records_from, records_next, source_of}
+use Rattle.csv.specs.Reading.{ReadRecord, Reached, Ready, default_config, reader_trim, records_from, records_next}
 use Rattle.csv.specs.declared.parser.Config.{Config}
 use Rattle.csv.specs.declared.parser.State.{State}
 use Rattle.csv.specs.declared.parser.State.TheVariants as st
 use Rattle.csv.specs.declared.reader.Reader.{Reader}
 use Rattle.csv.specs.declared.reader.Trim.TheVariants as trim
 use Rattle.csv.proofs.ReadFacts.{rows-end, rows-more}
-use Rattle.cpl_smm.specs.Kept.{GaveRecord, IsReading, ReadsOn, records_in, records_left, unread}
+use Rattle.cpl_smm.specs.Kept.{IsReading, ReadsOn, records_in}
 
 -- a record that was read leaves fewer bytes, or ends the text
 next_record-shorter : (cfg : Config) (s : State) (fields : List (List ℕ)) (field xs : List ℕ) (p : Read) → next_record cfg s fields field xs ≡ Some p

@@ -1,5 +1,5 @@
 -- The fields of a record.
-use Rattle.std.proofs.Common.{◌≡◌, ℕ, zero, suc, ◌<◌, List, [], ◌∷◌, length, Option, Some, None, refl, arith}
+use Rattle.std.proofs.Common.{◌≡◌, ℕ, zero, suc, ◌<◌, List, [], ◌∷◌, length, Some, None, arith}
 use Rattle.csv.specs.Records.{field_at}
 use Rattle.cpl_smm.specs.Records.{three_of}
 

@@ -1,12 +1,12 @@
 -- Rows of sorted factors.
-use Rattle.std.proofs.Common.{◌≡◌, ◌∙◌, ℕ, zero, suc, ◌+◌, ◌-◌, ◌*◌, ◌/◌, ◌%◌, ◌<◌, ◌≤◌, ◌==◌, Bool, true, false, List, [], ◌∷◌, All, length, map, take, drop, filter, find, get_or, slice_index, Option, Some, None, option_map, refl, sym, ap, subst, inl, inr, arith, add-one}
+use Rattle.std.proofs.Common.{◌≡◌, ◌∙◌, ℕ, zero, suc, ◌+◌, ◌-◌, ◌*◌, ◌%◌, ◌<◌, ◌≤◌, ◌==◌, List, [], ◌∷◌, All, length, map, take, drop, filter, find, get_or, slice_index, Option, Some, None, option_map, refl, sym, ap, subst, inl, inr, arith, add-one}
 use Rattle.std.proofs.lemmas.Bool.{cases_eq, cases_lt, eq-eqb, ne_eqb, eqb-true, false≢true, cases_Bool}
 use Rattle.std.proofs.lemmas.List.{drop-map, length-map, take-map}
-use Rattle.std.proofs.lemmas.List.Elements.{All-filter, All-map, All-weaker, filter_passes}
+use Rattle.std.proofs.lemmas.List.Elements.{All-filter, All-map, All-weaker}
 use Rattle.std.proofs.lemmas.List.FromFn.{get_or-map-range_with_len}
 use Rattle.std.proofs.lemmas.List.Sorted.{IsPermutation-sym}
 use Rattle.std.specs.List.{filter_map, range_with_len}
-use Rattle.std.specs.List.Sorted.{IsPermutation, IsStrictlyIncreasing}
+use Rattle.std.specs.List.Sorted.{IsPermutation}
 use Rattle.cpl_smm.specs.Kept.{Ascends, AreSorted, IsRanged, count_upto, dst_of, entry_of, is_dst, kept_factor, kept_from, pair_number, row_between, row_in, rows_between, src_of}
 use Rattle.cpl_smm.specs.Records.{Factor, IsWeight}
 use Rattle.cpl_smm.specs.Rows.{Entry, IsRow, entry_between, is_pair, row_of}

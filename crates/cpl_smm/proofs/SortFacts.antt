@@ -1,5 +1,5 @@
 -- Factors of a file, sorted by their cells.
-use Rattle.std.proofs.Common.{◌≡◌, ◌∙◌, ℕ, zero, suc, ◌+◌, ◌*◌, ◌<◌, ◌≤◌, ◌==◌, Bool, true, false, List, [], ◌∷◌, length, get_or, Option, None, Some, refl, sym, ap, subst, inl, inr, arith, add-one}
+use Rattle.std.proofs.Common.{◌≡◌, ◌∙◌, ℕ, zero, suc, ◌+◌, ◌<◌, ◌≤◌, ◌==◌, Bool, false, List, [], ◌∷◌, length, get_or, None, Some, refl, sym, ap, subst, inl, inr, arith, add-one}
 use Rattle.std.proofs.lemmas.Bool.{cases_eq, cases_lt, eq-eqb, ne_eqb, false≢true}
 use Rattle.std.proofs.lemmas.List.Sorted.{IsPermutation-sym, length_permutation, ties_still_rise}
 use Rattle.std.proofs.lemmas.Map.Keys.{IsDistinct-IsPermutation, IsDistinct-cons, IsDistinct-from_apart, IsDistinct-head, IsDistinct-tail}
@@ -8,12 +8,12 @@ use Rattle.std.specs.List.{AllByRecursion, IsDistinct}
 use Rattle.std.specs.List.Sorted.{IsNonDecreasingBy, IsPermutation, IsSortedByKey, IsStableByKey}
 use Rattle.std.specs.Ordering.{is_lt, nat_cmp}
 use Rattle.std.specs.declared.cmp.Ordering.TheVariants.{Greater}
-use Rattle.cpl_smm.specs.Kept.{Ascends, AreSorted, IsRanged, kept_factor, kept_from, least_repeat, pair_number, src_of}
+use Rattle.cpl_smm.specs.Kept.{Ascends, AreSorted, IsRanged, kept_factor, kept_from, least_repeat, pair_number}
 use Rattle.cpl_smm.specs.Records.{Factor, IsWeight, most_records}
 use Rattle.cpl_smm.specs.declared.entries.KeptFactor.{KeptFactor}
-use Rattle.cpl_smm.proofs.JudgedFacts.{IsFactor, kept_from-number, kept_from-of, repeat-least, repeat_behind}
+use Rattle.cpl_smm.proofs.JudgedFacts.{IsFactor, kept_from-number, repeat-least, repeat_behind}
 use Rattle.cpl_smm.proofs.MemberFacts.{All-from_in, IsIn, is_in-permutation}
-use Rattle.cpl_smm.proofs.RepeatFacts.{Climbs, Climbs-member, IsLeastRepeat, IsLeastRepeat-same, IsRepeat, least_repeat-least, rank}
+use Rattle.cpl_smm.proofs.RepeatFacts.{Climbs, Climbs-member, IsLeastRepeat-same, IsRepeat, least_repeat-least, rank}
 use Rattle.cpl_smm.proofs.RowFacts.{sorted-of}
 
 -- two factors have one number

@@ -1,5 +1,5 @@
 -- Weighted sums, entry by entry.
-use Rattle.std.proofs.Common.{◌≡◌, ◌∙◌, ℕ, zero, suc, ◌+◌, ◌<◌, ℤ, pos, ◌+ℤ◌, ◌*ℤ◌, List, [], ◌∷◌, length, drop, get_or, refl, sym, ap, arith, add-one}
+use Rattle.std.proofs.Common.{◌≡◌, ◌∙◌, ℕ, zero, suc, ◌+◌, ◌<◌, ℤ, ◌+ℤ◌, ◌*ℤ◌, List, [], ◌∷◌, length, drop, get_or, refl, sym, ap, arith, add-one}
 use Rattle.std.proofs.lemmas.Int.{ints}
 use Rattle.cpl_smm.specs.Rows.{Entry}
 use Rattle.cpl_smm.specs.Sums.{row_sum}

@@ -1,5 +1,5 @@
 -- The definitions of weights, evaluated on examples.
-use Rattle.std.specs.Prelude.{◌≡◌, ℕ, ℤ, ◌+◌, pos, neg_ℤ, codes, false, List, [], ◌∷◌, ◌++◌, Result, Ok, Err}
+use Rattle.std.specs.Prelude.{◌≡◌, ℕ, ℤ, ◌+◌, pos, neg_ℤ, codes, false, List, [], ◌∷◌, Result, Ok, Err}
 use Rattle.cpl_grid.specs.Owners.{Layout}
 use Rattle.cpl_route.specs.declared.need.Need.{Need}
 use Rattle.cpl_smm.specs.Files.{records_of, weights_of}

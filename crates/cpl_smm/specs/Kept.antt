@@ -1,5 +1,5 @@
 -- The code's own: factors as they are kept while a file is read, what the reader has still to give, and how rows are kept.
-use Rattle.std.specs.Prelude.{◌≡◌, ℕ, ◌+◌, ◌-◌, ◌*◌, ◌/◌, ◌%◌, ◌<◌, ◌≤◌, nat_le, filter, suc, Bool, ◌==◌, if◌then◌else◌, min, List, [], ◌∷◌, ◌++◌, All, map, length, take, drop, slice_index, slice_index_or, Option, Some, None, Result, Ok, Err, IsSome, true, false}
+use Rattle.std.specs.Prelude.{◌≡◌, ℕ, ◌+◌, ◌-◌, ◌*◌, ◌/◌, ◌%◌, ◌<◌, ◌≤◌, nat_le, filter, suc, Bool, ◌==◌, if◌then◌else◌, min, List, [], ◌∷◌, All, map, length, take, drop, slice_index, slice_index_or, Option, Some, None, Result, Ok, Err, true, false}
 use Rattle.std.specs.Borrow.{Bor}
 use Rattle.std.specs.List.{range_with_len}
 use Rattle.csv.specs.Reading.{Ready, default_config, reader_config, reader_state, reader_trim, records_from, source_of}

@@ -1,5 +1,5 @@
 -- What one record of a file of weights says: a factor of a weighted sum, or why it is refused.
-use Rattle.std.specs.Prelude.{ℕ, ℤ, ◌≤◌, Bool, ◌&&◌, if◌then◌else◌, nat_le, List, [], ◌∷◌, Option, Some, None, Result, Ok, Err, option_and_then, unsigned_abs}
+use Rattle.std.specs.Prelude.{ℕ, ℤ, ◌≤◌, Bool, ◌&&◌, nat_le, List, [], ◌∷◌, Option, Some, None, Result, Ok, Err, option_and_then, unsigned_abs}
 use Rattle.cpl_base.specs.Numerals.{number_word, numeral_of}
 use Rattle.cpl_base.specs.ResultChain.{◌>>=◌, ok_if}
 use Rattle.cpl_base.specs.declared.value.ValFault.{ValFault}

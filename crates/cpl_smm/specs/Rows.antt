@@ -1,5 +1,5 @@
 -- Weights row by row: for each destination cell the source cells that it takes from, with their weights.
-use Rattle.std.specs.Prelude.{ℕ, ℤ, ◌≡◌, ◌-◌, ◌≤◌, Bool, ◌&&◌, ◌==◌, List, [], All, map, length, find, slice_index_or, Option, option_map}
+use Rattle.std.specs.Prelude.{ℕ, ℤ, ◌-◌, ◌≤◌, Bool, ◌&&◌, ◌==◌, List, [], All, map, length, find, slice_index_or, Option, option_map}
 use Rattle.std.specs.List.{filter_map, range_with_len}
 use Rattle.std.specs.List.Sorted.{IsStrictlyIncreasing}
 use Rattle.cpl_smm.specs.Records.{Factor, IsWeight}

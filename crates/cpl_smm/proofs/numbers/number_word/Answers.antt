@@ -1,4 +1,4 @@
-use Rattle.std.proofs.Common.{◌≡◌, ◌<◌, ◌≤◌, ◌+◌, ◌-◌, ◌*◌, ◌^◌, ℕ, arith, get_or, refl, subst, sym}
+use Rattle.std.proofs.Common.{◌+◌, ◌*◌, ℕ, arith, get_or, refl, subst, sym}
 use Rattle.cpl_smm.proofs.NumberFacts.{IsNumberOf, IsNumberOf-next, below-next}
 use Rattle.cpl_smm.proofs.numbers.number_word.Goals as goal
 

@@ -1,4 +1,4 @@
-use Rattle.std.proofs.Common.{◌≤◌, ◌-◌, ◌*◌, ◌^◌, arith, length}
+use Rattle.std.proofs.Common.{◌≤◌, ◌-◌, ◌^◌, arith, length}
 use Rattle.std.proofs.Math.Nat.{mul-le-mul, pow-le-pow_right}
 use Rattle.cpl_smm.proofs.numbers.parts_in_range.Goals as goal
 

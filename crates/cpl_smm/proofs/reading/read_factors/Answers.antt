@@ -1,7 +1,7 @@
-use Rattle.std.proofs.Common.{◌≡◌, ◌∙◌, ◌+◌, ◌≤◌, ◌++◌, ◌∷◌, [], List, Ok, ap, arith, append_assoc, sym, refl}
+use Rattle.std.proofs.Common.{◌≡◌, ◌∙◌, ◌+◌, ◌++◌, ◌∷◌, [], List, Ok, ap, arith, append_assoc, sym}
 use Rattle.csv.specs.Records.{fields_of}
 use Rattle.cpl_smm.specs.Kept.{GaveRecord, judged_from, kept_answer, kept_from, records_left}
-use Rattle.cpl_smm.specs.Records.{most_records, record_factor}
+use Rattle.cpl_smm.specs.Records.{record_factor}
 use Rattle.cpl_smm.specs.declared.entries.KeptFactor.{KeptFactor}
 use Rattle.cpl_smm.proofs.JudgedFacts.{kept_answer-ok, record_factor-ok, step-factors, step-fault}
 use Rattle.cpl_smm.proofs.reading.read_factors.Goals as goal

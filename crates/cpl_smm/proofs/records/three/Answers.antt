@@ -1,5 +1,5 @@
-use Rattle.std.proofs.Common.{◌<◌, ◌≡◌, ◌∙◌, arith, refl, sym, length}
-use Rattle.csv.specs.Records.{field_at, fields_of}
+use Rattle.std.proofs.Common.{◌<◌, ◌≡◌, arith, sym, length}
+use Rattle.csv.specs.Records.{fields_of}
 use Rattle.cpl_smm.proofs.RecordFacts.{field_at-there, three_of-fields}
 use Rattle.cpl_smm.proofs.records.three.Goals as goal
 

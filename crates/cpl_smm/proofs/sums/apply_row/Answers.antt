@@ -1,4 +1,4 @@
-use Rattle.std.proofs.Common.{◌≡◌, ◌<◌, ◌≤◌, ◌+◌, ◌*◌, ◌+ℤ◌, FitsSigned, arith, length, rules, pos, to_z-of_z, unsigned_abs}
+use Rattle.std.proofs.Common.{◌≤◌, ◌+◌, ◌*◌, ◌+ℤ◌, FitsSigned, arith, rules, pos, to_z-of_z, unsigned_abs}
 use Rattle.std.proofs.lemmas.Int.{ints}
 use Rattle.std.specs.Int.{w128}
 use Rattle.cpl_smm.proofs.SumFacts.{row_sum-next}

@@ -1,4 +1,4 @@
-use Rattle.std.proofs.Common.{◌≡◌, ◌*◌, ◌^◌, ◌≤◌, ◌+ℤ◌, drop, unsigned_abs}
+use Rattle.std.proofs.Common.{◌≡◌, ◌*◌, ◌≤◌, ◌+ℤ◌, drop, unsigned_abs}
 use Rattle.cpl_smm.specs.Sums.{row_sum}
 use Rattle.cpl_smm.proofs.sums.apply_row.Given as goal
 
