@@ -6,12 +6,15 @@
 #   prepared   quotients by one divisor that is prepared, beside `div`
 #   formula    a formula at many cells, beside the same arithmetic written out
 #   sequence   the operations of a run sequence by their numbers, beside from each to the next
+#   weights    a file of weights that is read, beside one pass over its bytes; a round is 1,024 records
+#   rows       weighted sums of four factors and of sixteen, beside a plain loop of 64 bits
 set -eu
 cd "$(dirname "$0")/../crates/bench"
-measure="${1:?values, prepared, formula or sequence}"
+measure="${1:?values, prepared, formula, sequence, weights or rows}"
 case "$measure" in
     sequence) rounds="${2:-400}" ;;
-    formula) rounds="${2:-10000}" ;;
+    weights) rounds="${2:-1024}" ;;
+    formula | rows) rounds="${2:-10000}" ;;
     *) rounds="${2:-100000}" ;;
 esac
 rt run > /dev/null 2>&1
@@ -27,4 +30,7 @@ rt run > /dev/null 2>&1
         ratio("by_div", "prepared")
         ratio("formula", "plain_formula")
         ratio("op", "next")
+        ratio("read_weights", "plain_pass")
+        ratio("rows_of_4", "plain_rows_of_4")
+        ratio("rows_of_16", "plain_rows_of_16")
     }'

@@ -1,6 +1,6 @@
 //! How long the parts that matter take, each beside a plain path.
 //!
-//! The first word of the command line is the measure (`values`, `prepared`, `formula`, `sequence`), the second how many
+//! The first word of the command line is the measure (`values`, `prepared`, `formula`, `sequence`, `weights`, `rows`), the second how many
 //! thousands of rounds it makes; without words each measure makes one thousand. Checksums go to standard
 //! output, times in nanoseconds to standard error.
 #![tactic(auto)]
@@ -13,6 +13,7 @@ mod loops;
 mod passes;
 mod products;
 mod table;
+mod weights;
 
 use cells::{formula_sum, plain_sum, tree};
 use cpl_base::Divisor;
@@ -27,6 +28,7 @@ use std::rt::{Clock, Env};
 use std::time::Instant;
 use std::{env, io};
 use table::table;
+use weights::{plain_pass, plain_rows, read_sum, rows_sum, text, weights};
 
 /// A hundred units.
 const HUNDRED: i64 = 100_000_000;
@@ -135,6 +137,55 @@ fn measure_sequence(
     report(rt, "op", start, op_sum(&sequence))
 }
 
+/// A file of weights with so many times 1,024 records, read, and gone over once.
+fn measure_weights(
+    rt: &(impl Clock + Print + Eprint),
+    alloc: Global,
+    rounds: u64,
+) -> io::Result<()> {
+    let Ok(file) = text(alloc, rounds.min(4_096).max(1), 4) else {
+        return eprintln!(rt; "out of memory");
+    };
+    let start = Instant::now(rt)?;
+    report(rt, "plain_pass", start, plain_pass(file.as_slice()))?;
+    let start = Instant::now(rt)?;
+    report(rt, "read_weights", start, read_sum(alloc, file.as_slice()))
+}
+
+/// Weighted sums of so many thousands of rows, of four factors and of sixteen.
+fn measure_rows(
+    rt: &(impl Clock + Print + Eprint),
+    alloc: Global,
+    values: &[i64],
+    rounds: u64,
+) -> io::Result<()>
+    requires values { All IsValue values.now }
+    requires count { length values.now ≡ 1029 }
+{
+    let (Ok(four), Ok(sixteen)) = (weights(alloc, 4), weights(alloc, 16)) else {
+        return eprintln!(rt; "the weights aren't read");
+    };
+    let rows = rounds.saturating_mul(1_000);
+    let start = Instant::now(rt)?;
+    report(rt, "rows_of_4", start, rows_sum(&four, values, rows))?;
+    let start = Instant::now(rt)?;
+    report(
+        rt,
+        "plain_rows_of_4",
+        start,
+        plain_rows(&four, values, rows),
+    )?;
+    let start = Instant::now(rt)?;
+    report(rt, "rows_of_16", start, rows_sum(&sixteen, values, rows))?;
+    let start = Instant::now(rt)?;
+    report(
+        rt,
+        "plain_rows_of_16",
+        start,
+        plain_rows(&sixteen, values, rows),
+    )
+}
+
 fn main(rt: HostRuntime) -> io::Result<()> {
     let asked = word(&rt, 1)?;
     let rounds = word(&rt, 2)?
@@ -152,6 +203,12 @@ fn main(rt: HostRuntime) -> io::Result<()> {
     }
     if is_asked(&asked, "sequence") {
         measure_sequence(&rt, rt.alloc(), rounds)?;
+    }
+    if is_asked(&asked, "weights") {
+        measure_weights(&rt, rt.alloc(), rounds)?;
+    }
+    if is_asked(&asked, "rows") {
+        measure_rows(&rt, rt.alloc(), values.as_slice(), rounds)?;
     }
     Ok(())
 }

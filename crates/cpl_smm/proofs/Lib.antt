@@ -1,0 +1,15 @@
+mod CountFacts
+mod FileFacts
+mod JudgedFacts
+mod KeptFacts
+mod MarkFacts
+mod MemberFacts
+mod NeedFacts
+mod NumberFacts
+mod OrderFacts
+mod ReaderFacts
+mod RecordFacts
+mod RepeatFacts
+mod RowFacts
+mod SortFacts
+mod SumFacts

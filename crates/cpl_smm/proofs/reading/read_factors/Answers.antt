@@ -1,0 +1,50 @@
+use Rattle.std.proofs.Common.{◌≡◌, ◌∙◌, ◌+◌, ◌++◌, ◌∷◌, [], List, Ok, ap, arith, append_assoc, sym}
+use Rattle.csv.specs.Records.{fields_of}
+use Rattle.cpl_smm.specs.Kept.{GaveRecord, judged_from, kept_answer, kept_from, records_left}
+use Rattle.cpl_smm.specs.Records.{record_factor}
+use Rattle.cpl_smm.specs.declared.entries.KeptFactor.{KeptFactor}
+use Rattle.cpl_smm.proofs.JudgedFacts.{kept_answer-ok, record_factor-ok, step-factors, step-fault}
+use Rattle.cpl_smm.proofs.reading.read_factors.Goals as goal
+
+pub loop-number-init : goal.loop-number-init
+loop-number-init c = record {
+  reading = c.reader-reader.ensures.reading;
+  factors =
+      ap (λ (ks : List KeptFactor). ks ++ kept_from 1 (judged_from c.args.src_cells c.args.dst_cells 1 (records_left c.reader-reader.result)).factors) c.new-factors.ensures.items
+      ∙ ap (λ left. kept_from 1 (judged_from c.args.src_cells c.args.dst_cells 1 left).factors) c.reader-reader.ensures.left;
+  few = omega arith;
+  fault = ap (λ left. (judged_from c.args.src_cells c.args.dst_cells 1 left).fault) c.reader-reader.ensures.left;
+}
+
+pub loop-number-preserved : goal.loop-number-preserved
+loop-number-preserved c =
+    let n = c.loop-number.number in
+    let fields = fields_of c.reads_on.new.csv_record in
+    let src_cells = c.args.src_cells in
+    let dst_cells = c.args.dst_cells in
+    let more = judged_from src_cells dst_cells (n + 1) (records_left c.reads_on.new.reader) in
+    let r = record_factor src_cells dst_cells n fields in
+    let kept = c.in-Ok.factor in
+    let said : Ok kept ≡ kept_answer n r = sym c.in-Ok.is ∙ c.kept_factor.ensures in
+    let gave : GaveRecord c.loop-number.reader c.reads_on.new.reader fields = rw c.if-not-branch.false at c.in_ok-reads_on.ensures.ok in
+    let (factor, ok) = kept_answer-ok n r kept said in
+    let within = (record_factor-ok src_cells dst_cells n fields factor ok).1 in
+    let so_far = c.loop-number.factors.items in
+    let left = sym gave.left in
+    record {
+      reading = gave.reading;
+      factors =
+          ap (λ (ks : List KeptFactor). ks ++ kept_from (n + 1) more.factors) c.in_ok-push-in-Ok.ensures.items
+          ∙ append_assoc so_far (kept ∷ []) (kept_from (n + 1) more.factors)
+          ∙ ap (λ (ks : List KeptFactor). so_far ++ ks) (sym (step-factors n r more kept said))
+          ∙ ap (λ left. so_far ++ kept_from n (judged_from src_cells dst_cells n left).factors) left
+          ∙ c.loop-number.invariant.factors;
+      few = omega (arith, within);
+      fault = sym (step-fault n r more kept said) ∙ ap (λ left. (judged_from src_cells dst_cells n left).fault) left ∙ c.loop-number.invariant.fault;
+    }
+
+pub returns-clause-factors : goal.returns-clause-factors
+returns-clause-factors c = let few = c.loop-number.invariant.few in absurd (omega arith)
+
+pub returns-clause-fault : goal.returns-clause-fault
+returns-clause-fault c = let few = c.loop-number.invariant.few in absurd (omega arith)
