@@ -19,8 +19,7 @@ use std::alloc::Global;
 /// Source: this project's own.
 pub fn entry_examples()
     ensures entries { EntryExamples }
-{
-}
+{}
 
 /// How far two values are apart, by an entry whose formula takes the size of a difference and whose closure
 /// compares them instead.

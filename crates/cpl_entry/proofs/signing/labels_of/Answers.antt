@@ -11,7 +11,7 @@ returns-then-not-branch c =
     let labels = c.loop-index.labels in
     let sign = c.index-signs-index.result in
     let seen : is_there labels sign.label ≡ true =
-        ap (is_there labels) (sym c.bytes.ensures) ∙ there_if_not_new c.in_ok-add.field-0 (is_there labels c.bytes.result.now) c.in_ok-add.ensures.added c.if-not-branch.true in
+    ap (is_there labels) (sym c.bytes.ensures) ∙ there_if_not_new c.in_ok-add.field-0 (is_there labels c.bytes.result.now) c.in_ok-add.ensures.added c.if-not-branch.true in
     let first = first_repeat-seen c.args.signs.now c.loop-index.index sign labels c.loop-index.invariant c.loop-index-test.true c.index-signs-index.is seen in
     record { value = tt; fault = inr (distinct_labels-seen c.args.signs.now c.loop-index.index first) }
 
@@ -20,7 +20,7 @@ loop-index-preserved c =
     let labels = c.loop-index.labels in
     let sign = c.index-signs-index.result in
     let new : is_there labels sign.label ≡ false =
-        ap (is_there labels) (sym c.bytes.ensures) ∙ missing_if_new c.in_ok-add.field-0 (is_there labels c.bytes.result.now) c.in_ok-add.ensures.added c.if-not-branch.false in
+    ap (is_there labels) (sym c.bytes.ensures) ∙ missing_if_new c.in_ok-add.field-0 (is_there labels c.bytes.result.now) c.in_ok-add.ensures.added c.if-not-branch.false in
     let more = IsSigned-more c.args.signs.now c.loop-index.index sign labels c.loop-index.invariant c.loop-index-test.true c.index-signs-index.is new in
     let same = c.in_ok-add.ensures.labels ∙ ap (with_label labels) c.bytes.ensures in
     subst (λ (found : List (List ℕ)). IsSigned c.args.signs.now (c.loop-index.index + 1) found) (sym same) more

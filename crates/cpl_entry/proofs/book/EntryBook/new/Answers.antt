@@ -18,9 +18,11 @@ invariant_of-result g c =
     let signed = (rw c.as_slice.ensures.value at c.in_ok-signs.ensures) ∙ signs_of-entries c.args.entries.items in
     let labels = ap (λ (signs : List EntrySign). map (λ (sign : EntrySign). sign.label) signs) (c.as_slice-2.ensures.value ∙ signed) ∙ labels_of-signs (map entry_of c.args.entries.items) in
     let found = distinct_labels-Ok _ c.in_ok-labels.labels c.in_ok-labels.ensures.value in
-    record { kept = record {
-      few = few_entries c.args.entries.items c.requires;
-      signed = signed;
-      labelled = found.0 ∙ labels;
-      distinct = subst (λ (ls : List (List ℕ)). IsTrue (are_distinct ls)) (sym found.0) found.1;
-    } }
+    record {
+      kept = record {
+        few = few_entries c.args.entries.items c.requires;
+        signed = signed;
+        labelled = found.0 ∙ labels;
+        distinct = subst (λ (ls : List (List ℕ)). IsTrue (are_distinct ls)) (sym found.0) found.1;
+      };
+    }
