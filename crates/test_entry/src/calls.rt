@@ -33,15 +33,33 @@ fn relax_formula(alloc: Global) -> Result<Formula, AllocError>
     ))
 }
 
-/// That value, by the calls on values.
+/// That value, by calls on values.
 fn relaxed(from: i64, to: i64, share: i64) -> i64
     requires from { IsValue from }
     requires to { IsValue to }
     requires share { IsValue share }
     ensures { result ≡ clip (from +ℤ product_of share (clip (to -ℤ from))) }
 {
-    let step = mul(share, clip(to as i128 - from as i128));
-    clip(from as i128 + step as i128)
+    sum(from, mul(share, difference(to, from)))
+}
+
+/// A sum of values.
+fn sum(a: i64, b: i64) -> i64
+    requires a { IsValue a }
+    requires b { IsValue b }
+    ensures { result ≡ clip (a +ℤ b) }
+{
+    clip(a as i128 + b as i128)
+}
+
+/// A difference of values.
+fn difference(a: i64, b: i64) -> i64
+    requires a { IsValue a }
+    requires b { IsValue b }
+    ensures value { result ≡ clip (a -ℤ b) }
+    ensures within { IsValue result }
+{
+    clip(a as i128 - b as i128)
 }
 
 /// Whether numbers are values.
