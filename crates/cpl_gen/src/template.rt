@@ -55,7 +55,8 @@ ATM_phase_run::
 flux = flux + 0.0";
 
 /// The rest of its rule, up to the grid of the ocean.
-pub(crate) const FLUX: &[u8] = b" * (flux[1,0] + flux[-1,0] + flux[0,1] + flux[0,-1] - 4 * flux) - temp / 100
+pub(crate) const FLUX: &[u8] =
+    b" * (flux[1,0] + flux[-1,0] + flux[0,1] + flux[0,-1] - 4 * flux) - temp / 100
 ::
 OCN_petlist_bounds: 4 7
 ";

@@ -6,7 +6,14 @@ use std::process::Abort;
 use std::test::Fail;
 
 /// A seed, the length and the SHA-256 digest of its text, the size of its grid, its diffusion and its duration.
-type Case = (u64, usize, &'static str, &'static [u8], &'static [u8], &'static [u8]);
+type Case = (
+    u64,
+    usize,
+    &'static str,
+    &'static [u8],
+    &'static [u8],
+    &'static [u8],
+);
 
 /// Seeds with their texts, which another program wrote: the first, the second, one with the fewest columns, rows and
 /// hours, and the last.
@@ -57,8 +64,17 @@ const GRIDS: [(usize, &[u8]); 4] = [
 const FLUX: &[u8] = b" * (flux[1,0] + flux[-1,0] + flux[0,1] + flux[0,-1] - 4 * flux) - temp / 100";
 
 /// Asserts that a line of a text, counted from 1, is these three pieces.
-fn expect_line(rt: &impl Abort, text: &[u8], number: usize, begin: &[u8], middle: &[u8], end: &[u8]) {
-    let line = text.split(|byte| *byte == b'\n').nth(number.saturating_sub(1));
+fn expect_line(
+    rt: &impl Abort,
+    text: &[u8],
+    number: usize,
+    begin: &[u8],
+    middle: &[u8],
+    end: &[u8],
+) {
+    let line = text
+        .split(|byte| *byte == b'\n')
+        .nth(number.saturating_sub(1));
     let between = line
         .and_then(|line| line.strip_prefix(begin))
         .and_then(|rest| rest.strip_suffix(end));
