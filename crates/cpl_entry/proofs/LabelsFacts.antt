@@ -1,11 +1,11 @@
 -- Labels as they are kept, and as contracts see them.
-use Rattle.std.proofs.Common.{◌≡◌, ℕ, ◌+◌, Bool, true, false, ◌||◌, cond, not, nat_lt, List, [], ◌∷◌, ◌++◌, length, map, Some, None, position, Vec, Global, refl, sym, ap, ◌∙◌}
+use Rattle.std.proofs.Common.{◌≡◌, ℕ, ◌+◌, Bool, true, false, ◌||◌, cond, not, nat_lt, List, [], ◌∷◌, ◌++◌, map, Some, None, position, Vec, Global, refl, sym}
 use Rattle.std.proofs.lemmas.List.{length-map, map_push}
 use Rattle.std.specs.Cmp.Lexicographic.{nat_list_eq_equiv}
 use Rattle.std.specs.List.{list_any, prefix_len}
 use Rattle.std.specs.Str.{bytes_eq}
 use Rattle.cpl_base.specs.Words.{place_of}
-use Rattle.cpl_entry.specs.Kept.{is_there, with_label}
+use Rattle.cpl_entry.specs.Kept.{is_there}
 
 -- the labels that vectors hold
 abbrev pub held_in : List (Vec ℕ Global) → List (List ℕ)

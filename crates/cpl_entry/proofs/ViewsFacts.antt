@@ -1,5 +1,5 @@
 -- What a book keeps, seen without closures.
-use Rattle.std.proofs.Common.{◌≡◌, ◌⊎◌, ◌∙◌, inl, inr, ◌<◌, ◌^◌, ℕ, zero, suc, ℤ, subst, List, [], ◌∷◌, length, get_or, map, Option, Some, None, Ok, Err, Result, refl, sym, ap}
+use Rattle.std.proofs.Common.{◌≡◌, ◌⊎◌, ◌∙◌, inl, inr, ◌<◌, ◌^◌, ℕ, zero, suc, ℤ, subst, List, [], ◌∷◌, length, get_or, map, Option, Some, None, Ok, Err, refl, sym, ap}
 use Rattle.std.specs.Prelude.{IsTrue, is_none}
 use Rattle.std.specs.List.{All}
 use Rattle.std.specs.Option.{option_map_or}

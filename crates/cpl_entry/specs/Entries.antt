@@ -1,5 +1,5 @@
 -- Native entries and books of them: what is found by a label, and what a call gives.
-use Rattle.std.specs.Prelude.{◌≡◌, ℕ, ◌<◌, ◌^◌, ℤ, ◌==◌, if◌then◌else◌, List, length, map, slice_get, Option, Some, None, Result, Ok, Err, IsTrue}
+use Rattle.std.specs.Prelude.{ℕ, ◌<◌, ◌^◌, ℤ, ◌==◌, if◌then◌else◌, List, length, map, slice_get, Option, Some, None, Result, Ok, Err, IsTrue}
 use Rattle.std.specs.List.{All}
 use Rattle.std.specs.Option.{option_map, option_map_or}
 use Rattle.cpl_base.specs.Words.{are_distinct, first_repeat, place_of}

@@ -3,7 +3,7 @@ use Rattle.std.specs.Prelude.{◌≡◌, ℕ, ◌*◌, ℤ, pos, neg_ℤ, List, 
 use Rattle.cpl_base.specs.Numbers.{million}
 use Rattle.cpl_formula.specs.declared.formula.Formula.{Formula, roll-Formula}
 use Rattle.cpl_formula.specs.declared.formula.Formula.TheOpen as tree
-use Rattle.cpl_entry.specs.Entries.{NativeEntry, book_of, entry_for, inputs_at, signs_of, value_at}
+use Rattle.cpl_entry.specs.Entries.{NativeEntry, book_of, entry_for, inputs_at, value_at}
 use Rattle.cpl_entry.specs.declared.fault.EntryFault.TheVariants as fault
 
 -- an input

@@ -1,7 +1,6 @@
 -- The examples hold by computing.
-use Rattle.std.proofs.Common.{◌≡◌, refl, ap}
+use Rattle.std.proofs.Common.{refl}
 use Rattle.cpl_formula.proofs.ValuesFacts.{values}
-use Rattle.cpl_entry.specs.Examples.{EntryExamples}
 use Rattle.cpl_entry.proofs.examples.entry_examples.Goals as goal
 
 pub returns : goal.returns

@@ -1,4 +1,4 @@
-use Rattle.std.proofs.Common.{◌≡◌, ◌+◌, Bool, false, true, Ok, ap, inr, sym, ◌∙◌, subst, List, ℕ}
+use Rattle.std.proofs.Common.{◌≡◌, ◌+◌, false, true, Ok, ap, inr, sym, ◌∙◌, subst, List, ℕ}
 use Rattle.cpl_entry.proofs.SigningFacts.{IsSigned, IsSigned-more, IsSigned-none, distinct_labels-none, distinct_labels-seen, first_repeat-none, first_repeat-seen, labels_in-all, missing_if_new, there_if_not_new}
 use Rattle.cpl_entry.specs.Kept.{is_there, with_label}
 use Rattle.cpl_entry.proofs.signing.labels_of.Goals as goal

@@ -1,4 +1,4 @@
-use Rattle.std.proofs.Common.{◌≡◌, length, rules, w64}
+use Rattle.std.proofs.Common.{length, rules, w64}
 use Rattle.std.proofs.lemmas.Int.{to_z-of_z}
 use mir.Val.{SFits}
 use Rattle.cpl_entry.proofs.ViewsFacts.{IsValue-formula, inputs_at-entry}

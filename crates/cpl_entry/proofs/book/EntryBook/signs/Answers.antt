@@ -1,4 +1,4 @@
-use Rattle.std.proofs.Common.{List, ℕ, ap, subst}
+use Rattle.std.proofs.Common.{List, ℕ, subst}
 use Rattle.std.specs.Prelude.{IsTrue}
 use Rattle.cpl_base.specs.Words.{are_distinct}
 use Rattle.cpl_entry.proofs.ViewsFacts.{are_over}

@@ -1,4 +1,4 @@
-use Rattle.std.proofs.Common.{◌≡◌, Bool, List, ℕ, cond, not, ◌++◌, ◌∷◌, [], ap, sym, ◌∙◌}
+use Rattle.std.proofs.Common.{cond, not, ◌++◌, ◌∷◌, [], ap, ◌∙◌}
 use Rattle.std.specs.List.{list_any}
 use Rattle.cpl_entry.proofs.LabelsFacts.{held_in, held_in-pushed, is_there-held}
 use Rattle.cpl_entry.specs.Kept.{is_there, with_label}
