@@ -38,7 +38,8 @@ fn distance(alloc: Global, a: i64, b: i64) -> Result<i64, EntryFault>
         |inputs: &[i64]| -> i64
             requires two { length inputs.now ≡ 2 }
             requires values { All IsValue inputs.now }
-            ensures { result ≡ pos (unsigned_abs (clip (slice_index_or inputs.now 0 (pos 0) -ℤ slice_index_or inputs.now 1 (pos 0)))) }
+            ensures { result ≡ pos (unsigned_abs (clip (slice_index_or inputs.now 0 (pos 0)
+                -ℤ slice_index_or inputs.now 1 (pos 0)))) }
         { apart(inputs[0], inputs[1]) },
     )?;
     let entry = Entry::new(Text::of(alloc, b"distance")?, 2, formula, call);

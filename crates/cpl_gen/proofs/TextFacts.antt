@@ -1,5 +1,5 @@
 -- Pieces that are put behind one another.
-use Rattle.std.proofs.Common.{◌≡◌, ℕ, List, [], ◌∷◌, ◌++◌, refl, sym, ap, ◌∙◌, append_assoc}
+use Rattle.std.proofs.Common.{◌≡◌, ℕ, List, [], ◌∷◌, ◌++◌, refl, ap, ◌∙◌, append_assoc}
 use Rattle.cpl_gen.specs.Config.{Line, before_text, text_of}
 
 -- a text behind what stands behind a line

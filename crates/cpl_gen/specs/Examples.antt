@@ -1,5 +1,5 @@
 -- The definition of a configuration, evaluated on seeds.
-use Rattle.std.specs.Prelude.{◌≡◌, ◌^◌, ◌-◌, [], ◌∷◌, codes, take}
+use Rattle.std.specs.Prelude.{◌≡◌, [], ◌∷◌, codes, take}
 use Rattle.cpl_gen.specs.Config.{config_of, grid_line, text_of}
 use Rattle.cpl_gen.specs.Draws.{next_state, numbers_of}
 

@@ -123,7 +123,9 @@ fn relaxes(rt: HostRuntime) -> Result<(), Fail> {
         |inputs: &[i64]| -> i64
             requires three { length inputs.now ≡ 3 }
             requires values { All IsValue inputs.now }
-            ensures { result ≡ clip (slice_index_or inputs.now 0 (pos 0) +ℤ product_of (slice_index_or inputs.now 2 (pos 0)) (clip (slice_index_or inputs.now 1 (pos 0) -ℤ slice_index_or inputs.now 0 (pos 0)))) }
+            ensures { result ≡ clip (slice_index_or inputs.now 0 (pos 0)
+                +ℤ product_of (slice_index_or inputs.now 2 (pos 0))
+                (clip (slice_index_or inputs.now 1 (pos 0) -ℤ slice_index_or inputs.now 0 (pos 0)))) }
         { relaxed(inputs[0], inputs[1], inputs[2]) },
     )?;
     let mut entries = Vec::new(alloc);
