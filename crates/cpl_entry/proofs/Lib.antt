@@ -1,0 +1,3 @@
+mod LabelsFacts
+mod SigningFacts
+mod ViewsFacts

@@ -1,0 +1,6 @@
+pub mod Answers
+pub mod Books
+pub mod Entries
+pub mod Examples
+pub mod Kept
+pub mod Views
