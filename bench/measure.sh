@@ -7,12 +7,14 @@
 #   formula    a formula at many cells, beside the same arithmetic written out
 #   sequence   the operations of a run sequence by their numbers, beside from each to the next
 #   weights    a file of weights that is read, beside one pass over its bytes; a round is 1,024 records
+#   routes     routes of 1,024 by 1,024 cells, beside passes that write as many numbers
 #   rows       weighted sums of four factors and of sixteen, beside a plain loop of 64 bits
 set -eu
 cd "$(dirname "$0")/../crates/bench"
-measure="${1:?values, prepared, formula, sequence, weights or rows}"
+measure="${1:?values, prepared, formula, sequence, weights, rows or routes}"
 case "$measure" in
     sequence) rounds="${2:-400}" ;;
+    routes) rounds="${2:-5000}" ;;
     weights) rounds="${2:-1024}" ;;
     formula | rows) rounds="${2:-10000}" ;;
     *) rounds="${2:-100000}" ;;
@@ -31,6 +33,10 @@ rt run > /dev/null 2>&1
         ratio("formula", "plain_formula")
         ratio("op", "next")
         ratio("read_weights", "plain_pass")
+        ratio("onto_columns", "written")
+        ratio("onto_rows", "written")
+        ratio("halo", "written_halo")
+        ratio("halo_of_columns", "written_halo_of_columns")
         ratio("rows_of_4", "plain_rows_of_4")
         ratio("rows_of_16", "plain_rows_of_16")
     }'

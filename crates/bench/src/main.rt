@@ -1,7 +1,7 @@
 //! How long the parts that matter take, each beside a plain path.
 //!
-//! The first word of the command line is the measure (`values`, `prepared`, `formula`, `sequence`, `weights`, `rows`), the second how many
-//! thousands of rounds it makes; without words each measure makes one thousand. Checksums go to standard
+//! The first word of the command line is the measure (`values`, `prepared`, `formula`, `sequence`, `weights`, `rows`,
+//! `routes`), the second how many thousands of rounds it makes; without words each measure makes one thousand. Checksums go to standard
 //! output, times in nanoseconds to standard error.
 #![tactic(auto)]
 
@@ -12,6 +12,7 @@ mod cells;
 mod loops;
 mod passes;
 mod products;
+mod routes;
 mod table;
 mod weights;
 
@@ -23,6 +24,7 @@ use passes::{next_sum, op_sum};
 use products::{
     plain_products, plain_quotients, prepared_quotients, products, quotients, quotients_by,
 };
+use routes::{divided, halo_sum, redist_sum, written_sum};
 use std::alloc::Global;
 use std::rt::{Clock, Env};
 use std::time::Instant;
@@ -186,6 +188,44 @@ fn measure_rows(
     )
 }
 
+/// Routes of 1,024 by 1,024 cells, and passes that write as many numbers: one redistribution onto other blocks and one
+/// onto columns for each 250 thousands of rounds, and a halo for each ten.
+fn measure_routes(
+    rt: &(impl Clock + Print + Eprint),
+    alloc: Global,
+    rounds: u64,
+) -> io::Result<()> {
+    let (Ok(blocks), Ok(columns), Ok(rows)) = (divided(8, 8), divided(64, 1), divided(1, 64)) else {
+        return eprintln!(rt; "the grid isn't divided");
+    };
+    let (few, many) = (rounds / 250 + 1, rounds / 10 + 1);
+    let start = Instant::now(rt)?;
+    let sum = written_sum(alloc, 1 << 20, few).unwrap_or(-1);
+    report(rt, "written", start, sum)?;
+    let start = Instant::now(rt)?;
+    let sum = redist_sum(alloc, &blocks, &columns, few).unwrap_or(-1);
+    report(rt, "onto_columns", start, sum)?;
+    let start = Instant::now(rt)?;
+    let sum = redist_sum(alloc, &blocks, &rows, few).unwrap_or(-1);
+    report(rt, "onto_rows", start, sum)?;
+    let start = Instant::now(rt)?;
+    let sum = written_sum(alloc, 28_672, many).unwrap_or(-1);
+    report(rt, "written_halo", start, sum)?;
+    let start = Instant::now(rt)?;
+    report(
+        rt,
+        "halo",
+        start,
+        halo_sum(alloc, &blocks, many).unwrap_or(-1),
+    )?;
+    let start = Instant::now(rt)?;
+    let sum = written_sum(alloc, 129_024, many).unwrap_or(-1);
+    report(rt, "written_halo_of_columns", start, sum)?;
+    let start = Instant::now(rt)?;
+    let sum = halo_sum(alloc, &columns, many).unwrap_or(-1);
+    report(rt, "halo_of_columns", start, sum)
+}
+
 fn main(rt: HostRuntime) -> io::Result<()> {
     let asked = word(&rt, 1)?;
     let rounds = word(&rt, 2)?
@@ -209,6 +249,9 @@ fn main(rt: HostRuntime) -> io::Result<()> {
     }
     if is_asked(&asked, "rows") {
         measure_rows(&rt, rt.alloc(), values.as_slice(), rounds)?;
+    }
+    if is_asked(&asked, "routes") {
+        measure_routes(&rt, rt.alloc(), rounds)?;
     }
     Ok(())
 }

@@ -21,7 +21,8 @@ struct Draws {
 impl Draws {
     /// A number from `low` to `high`.
     fn between(&mut self, low: u32, high: u32) -> u32
-        requires { low ≤ high }
+        requires order { low ≤ high }
+        requires small { high < 1000 }
         ensures from { low ≤ result }
         ensures to { result ≤ high }
     {
