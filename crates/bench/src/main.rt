@@ -145,13 +145,20 @@ fn measure_weights(
     alloc: Global,
     rounds: u64,
 ) -> io::Result<()> {
-    let Ok(file) = text(alloc, rounds.min(4_096).max(1), 4) else {
+    let rounds = rounds.clamp(1, 4_096);
+    let Ok(file) = text(alloc, rounds, 4) else {
         return eprintln!(rt; "out of memory");
     };
+    let cells = rounds as u32 * 256;
     let start = Instant::now(rt)?;
     report(rt, "plain_pass", start, plain_pass(file.as_slice()))?;
     let start = Instant::now(rt)?;
-    report(rt, "read_weights", start, read_sum(alloc, file.as_slice()))
+    report(
+        rt,
+        "read_weights",
+        start,
+        read_sum(alloc, file.as_slice(), cells),
+    )
 }
 
 /// Weighted sums of so many thousands of rows, of four factors and of sixteen.

@@ -59,8 +59,8 @@ pub fn plain_pass(text: &[u8]) -> i64 {
 }
 
 /// The same sum, of the weights that are read from the text.
-pub fn read_sum(alloc: Global, text: &[u8]) -> i64 {
-    match read_weights(alloc, text, u32::MAX, 1_048_576) {
+pub fn read_sum(alloc: Global, text: &[u8], cells: u32) -> i64 {
+    match read_weights(alloc, text, cells, cells) {
         Ok(weights) => numbers_sum(&weights),
         Err(_) => -1,
     }

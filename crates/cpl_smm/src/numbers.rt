@@ -30,10 +30,11 @@ pub(crate) fn number_word(word: &[u8]) -> Option<u64>
     }
     let mut number = 0u64;
     for byte in word {
-        if 48 > *byte || *byte > 57 {
+        let digit = byte.wrapping_sub(b'0');
+        if digit > 9 {
             return None;
         }
-        number = number * 10 + u64::from(*byte - 48);
+        number = number * 10 + u64::from(digit);
     }
     Some(number)
 }

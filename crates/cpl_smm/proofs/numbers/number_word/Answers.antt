@@ -1,4 +1,4 @@
-use Rattle.std.proofs.Common.{◌+◌, ◌*◌, ℕ, arith, get_or, refl, subst, sym}
+use Rattle.std.proofs.Common.{◌≡◌, ◌≤◌, ◌+◌, ◌-◌, ◌*◌, ℕ, arith, get_or, refl, subst, sym}
 use Rattle.cpl_smm.proofs.NumberFacts.{IsNumberOf, IsNumberOf-next, below-next}
 use Rattle.cpl_smm.proofs.numbers.number_word.Goals as goal
 
@@ -11,6 +11,9 @@ overflow_add-number c = let below = below-next c.loop-byte.byte-index c.loop-byt
 pub loop-byte-preserved : goal.loop-byte-preserved
 loop-byte-preserved c =
     let byte = get_or c.args.word.now c.loop-byte.byte-index 0 in
-    let next = IsNumberOf-next c.args.word.now c.loop-byte.byte-index c.loop-byte.number byte c.loop-byte-test.true refl c.if-byte-lt48.false c.if-byte-gt57.false c.loop-byte.invariant in
+    let low : 48 ≤ byte = omega arith in
+    let high : byte ≤ 57 = omega arith in
+    let next = IsNumberOf-next c.args.word.now c.loop-byte.byte-index c.loop-byte.number byte c.loop-byte-test.true refl low high c.loop-byte.invariant in
+    let digit : c.from.result ≡ byte - 48 = omega arith in
     let P : ℕ → Type 0 = λ digit. IsNumberOf c.args.word.now (c.loop-byte.byte-index + 1) (c.loop-byte.number * 10 + digit) in
-    subst P (sym c.from.ensures) next
+    subst P (sym digit) next
