@@ -1,6 +1,6 @@
 //! Merges: a sum of products, rounded once.
 
-ghost use Rattle.std.specs.Prelude.{◌≡◌, ◌≤◌, All, length};
+ghost use Rattle.std.specs.Prelude.{◌≡◌, ◌^◌, ◌≤◌, ◌*ℤ◌, All, length, unsigned_abs};
 ghost use Rattle.cpl_base.specs.Numbers.{IsValue};
 ghost use Rattle.cpl_mediator.specs.Merges.{IsTerm, merge_of};
 
@@ -18,7 +18,18 @@ pub fn merge(terms: &[(i64, i64)]) -> i64
 {
     let mut sum: i128 = 0;
     for (value, factor) in terms {
-        sum += i128::from(*value) * i128::from(*factor);
+        sum += product(*value, *factor);
     }
     clip(near(sum, i128::from(MILLION)))
+}
+
+/// The exact product of two values.
+#[inline(always)]
+fn product(value: i64, factor: i64) -> i128
+    requires value { IsValue value }
+    requires factor { IsValue factor }
+    ensures value { result ≡ value *ℤ factor }
+    ensures small { unsigned_abs result ≤ 10 ^ 30 }
+{
+    i128::from(value) * i128::from(factor)
 }

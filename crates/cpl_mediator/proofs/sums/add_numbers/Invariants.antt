@@ -1,10 +1,13 @@
-use Rattle.std.proofs.Common.{◌≡◌, ℕ, ◌<◌, ◌≤◌, ◌+ℤ◌}
+use Rattle.std.proofs.Common.{ℕ, ◌<◌}
+use Rattle.std.specs.Int.{w64}
 use Rattle.cpl_mediator.specs.Averages.{number_at}
+use Rattle.cpl_mediator.proofs.AveragesFacts.{IsAddedUpTo}
 use Rattle.cpl_mediator.proofs.sums.add_numbers.Given as goal
+use mir.Val.{SFits}
 
--- the cells so far have their sums, those ahead are as they were
+-- the numbers so far are added
 abbrev pub invariant-loop-cell : goal.invariant-loop-cell
 invariant-loop-cell l = record {
-  done : (k : ℕ) → k < l.cell → number_at l.sums k ≡ number_at l.initial.sums k +ℤ number_at l.numbers k;
-  ahead : (k : ℕ) → l.cell ≤ k → number_at l.sums k ≡ number_at l.initial.sums k;
+  added : IsAddedUpTo l.initial.sums l.numbers l.sums l.cell;
+  fits : (k : ℕ) → k < l.cell → SFits w64 (number_at l.numbers k);
 }
