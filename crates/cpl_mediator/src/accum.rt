@@ -58,6 +58,7 @@ impl Accum {
         requires count { self.old.count < 2 ^ 24 }
         requires cells { length values.now ≡ length self.old.sums }
         ensures count { self.new.count ≡ self.old.count + 1 }
+        ensures cells { length self.new.sums ≡ length self.old.sums }
         ensures sums { self.new.sums ≡ sums_with self.old.sums values.now }
         ensures stands { (kept : List (List ℤ)) → StandsFor self.old kept → StandsFor self.new (kept ++ values.now ∷ []) }
     {
