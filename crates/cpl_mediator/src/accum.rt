@@ -74,6 +74,7 @@ impl Accum {
     /// Source: this project's own.
     pub fn average(&mut self, into: &mut [i64]) -> Result<(), AverageEmpty>
         requires cells { length into.old ≡ length self.old.sums }
+        ensures cells { length self.new.sums ≡ length self.old.sums }
         ensures empty { IsErr result ↔ (self.old.count ≡ 0) }
         ensures unchanged { OnErr result ((self.new ≡ self.old) × (into.new ≡ into.old)) }
         ensures value { OnOk result ((kept : List (List ℤ)) → StandsFor self.old kept → into.new ≡ average_of (length self.old.sums) kept) }

@@ -1,0 +1,3 @@
+mod MergingFacts
+mod OrderFacts
+mod UniqueFacts

@@ -1,0 +1,2 @@
+//! Tests of traces: logs that are merged, and the text.
+#![tactic(auto)]
