@@ -1,3 +1,4 @@
+mod LineFacts
 mod MergingFacts
 mod OrderFacts
 mod UniqueFacts

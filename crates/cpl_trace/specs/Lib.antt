@@ -4,3 +4,4 @@ pub mod Logs
 pub mod Merging
 pub mod Rows
 pub mod Steps
+pub mod Writers

@@ -19,17 +19,17 @@ abbrev pub integer_text : ℤ → List ℕ
 integer_text z = sign (is_negative z) ++ decimal (unsigned_abs z)
 
 -- the columns of a row
-abbrev pub columns_of : TraceNames → TraceRow → List (List ℕ)
+unfoldable pub columns_of : TraceNames → TraceRow → List (List ℕ)
 columns_of names row =
     decimal row.op ∷ name_at names.components row.component ∷ name_at (names_at names.phases row.component) row.phase
     ∷ name_at (names_at names.fields row.component) row.field ∷ integer_text row.stamp ∷ value_text row.sum ∷ []
 
 -- a line: columns with commas between them
-abbrev pub line_of : List (List ℕ) → List ℕ
+unfoldable pub line_of : List (List ℕ) → List ℕ
 line_of columns = join_with_byte 44 columns ++ 10 ∷ []
 
 -- the first line
-abbrev pub head_line : List ℕ
+unfoldable pub head_line : List ℕ
 head_line = line_of (codes "op" ∷ codes "component" ∷ codes "phase" ∷ codes "field" ∷ codes "stamp" ∷ codes "sum" ∷ [])
 
 -- the text: the first line, then one for each row
