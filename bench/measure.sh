@@ -6,11 +6,13 @@
 #   prepared   quotients by one divisor that is prepared, beside `div`
 #   formula    a formula at many cells, beside the same arithmetic written out
 #   sequence   the operations of a run sequence by their numbers, beside from each to the next
+#   mediator   sums and averages of kept fields, beside a loop of sums and one of divisions
 set -eu
 cd "$(dirname "$0")/../crates/bench"
-measure="${1:?values, prepared, formula or sequence}"
+measure="${1:?values, prepared, formula, sequence or mediator}"
 case "$measure" in
     sequence) rounds="${2:-400}" ;;
+    mediator) rounds="${2:-20000}" ;;
     formula) rounds="${2:-10000}" ;;
     *) rounds="${2:-100000}" ;;
 esac
@@ -27,4 +29,6 @@ rt run > /dev/null 2>&1
         ratio("by_div", "prepared")
         ratio("formula", "plain_formula")
         ratio("op", "next")
+        ratio("adds", "plain_adds")
+        ratio("averages", "plain_averages")
     }'

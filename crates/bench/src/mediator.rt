@@ -33,12 +33,13 @@ pub fn plain_add(sums: &mut [i128], values: &[i64], rounds: u64)
     }
 }
 
-/// How long so many averages take, of three kept fields each.
+/// How long so many averages take, of so many kept fields each.
 pub fn averages(
     rt: &impl Clock,
     accum: &mut Accum,
     values: &[i64],
     into: &mut [i64],
+    count: u64,
     rounds: u64,
 ) -> io::Result<Duration>
     requires values { length values.now ≡ length accum.old.sums }
@@ -46,7 +47,7 @@ pub fn averages(
 {
     let mut time = Duration::ZERO;
     for _ in 0..rounds {
-        add(accum, values, 3);
+        add(accum, values, count);
         let start = Instant::now(rt)?;
         let _ = accum.average(into);
         time = time.saturating_add(start.elapsed(rt)?);
@@ -54,7 +55,7 @@ pub fn averages(
     Ok(time)
 }
 
-/// How long a loop takes so often that divides each value by three.
+/// How long a loop takes so often that divides each value.
 pub fn plain_averages(
     rt: &impl Clock,
     values: &[i64],
