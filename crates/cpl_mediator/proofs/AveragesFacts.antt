@@ -1,5 +1,5 @@
 -- Running sums: how they change with one more field, and the averages that they give.
-use Rattle.std.proofs.Common.{◌≡◌, ℕ, ℤ, pos, neg_ℤ, ◌+◌, ◌*◌, ◌^◌, ◌<◌, ◌≤◌, ◌+ℤ◌, ◌≤ℤ◌, List, [], ◌∷◌, ◌++◌, length, get_or, map, replicate, set, refl, subst, sym, ap, ◌∙◌, arith, inl, inr}
+use Rattle.std.proofs.Common.{◌≡◌, ℕ, ℤ, pos, neg_ℤ, ◌+◌, ◌*◌, ◌<◌, ◌≤◌, ◌+ℤ◌, ◌≤ℤ◌, List, [], ◌∷◌, ◌++◌, length, get_or, map, replicate, set, refl, subst, sym, ap, ◌∙◌, arith, inl, inr}
 use Rattle.std.specs.List.{All, range_with_len}
 use Rattle.std.proofs.lemmas.Bool.{cases_lt}
 use Rattle.std.proofs.lemmas.Int.{ints}
@@ -30,9 +30,9 @@ pub IsSumOf-sums_with : (count : ℕ) (sums field : List ℤ) → All (IsSumOf c
 IsSumOf-sums_with count sums field all fits =
     let same : length (sums_with sums field) ≡ length sums = length-map-range_with_len (λ k. number_at sums k +ℤ number_at field k) 0 (length sums) in
     All-from_get_or (IsSumOf (count + 1)) (sums_with sums field) (pos 0) (λ k below.
-        let within : k < length sums = omega arith in
-        let P : ℤ → Type 0 = IsSumOf (count + 1) in
-        rw (number_at-sums_with sums field k within) (IsSumOf-more count (number_at sums k) (number_at field k) (All-get_or (IsSumOf count) sums k (pos 0) within all) (fits k within)))
+    let within : k < length sums = omega arith in
+    let P : ℤ → Type 0 = IsSumOf (count + 1) in
+    rw (number_at-sums_with sums field k within) (IsSumOf-more count (number_at sums k) (number_at field k) (All-get_or (IsSumOf count) sums k (pos 0) within all) (fits k within)))
 
 -- the sum at a cell with one more field
 sum_at-push : (kept : List (List ℤ)) (field : List ℤ) (cell : ℕ) → sum_at (kept ++ field ∷ []) cell ≡ sum_at kept cell +ℤ number_at field cell
@@ -87,12 +87,12 @@ zeros-all sums count cell all same zero =
 -- no field, and its sums
 pub StandsFor-none : (cells : ℕ) → StandsFor (no_sums cells) []
 StandsFor-none cells =
-  let same = length-replicate cells (pos 0) in
-  record {
-  count = refl;
-  cells = λ k d below. absurd (omega arith);
-  sums = fill_by_all (sum_at []) (replicate cells (pos 0)) (length (replicate cells (pos 0))) (pos 0) refl (λ k below. get_or-replicate cells k (pos 0) (pos 0) (omega (arith, same)));
-}
+    let same = length-replicate cells (pos 0) in
+    record {
+      count = refl;
+      cells = λ k d below. absurd (omega arith);
+      sums = fill_by_all (sum_at []) (replicate cells (pos 0)) (length (replicate cells (pos 0))) (pos 0) refl (λ k below. get_or-replicate cells k (pos 0) (pos 0) (omega (arith, same)));
+    }
 
 pub StandsFor-fresh : (running : RunningSums) (cells : ℕ) → running ≡ no_sums cells → StandsFor running []
 StandsFor-fresh running cells is =
@@ -118,8 +118,8 @@ StandsFor-push old new kept field stands whole count sums =
 pub average_of-sums : (running : RunningSums) (kept : List (List ℤ)) → StandsFor running kept → map (λ sum. near_of sum (pos running.count)) running.sums ≡ average_of (length running.sums) kept
 average_of-sums running kept stands =
     fill_by_all (average_at kept) (map (λ sum. near_of sum (pos running.count)) running.sums) (length running.sums) (pos 0) (length-map running.sums (λ sum. near_of sum (pos running.count))) (λ k below.
-        get_or-map (λ sum. near_of sum (pos running.count)) running.sums k (pos 0) (pos 0) below
-        ∙ (λ i. near_of (number_at-sums running kept k stands below i) (pos (stands.count i))))
+    get_or-map (λ sum. near_of sum (pos running.count)) running.sums k (pos 0) (pos 0) below
+    ∙ (λ i. near_of (number_at-sums running kept k stands below i) (pos (stands.count i))))
 
 -- a number of a field of values
 number_at-value : (field : List ℤ) (cell : ℕ) → All IsValue field → IsValue (number_at field cell)

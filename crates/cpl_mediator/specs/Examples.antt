@@ -1,5 +1,5 @@
 -- The definitions of averages and merges, evaluated on examples.
-use Rattle.std.specs.Prelude.{◌≡◌, ℤ, pos, neg_ℤ, ◌-◌, ◌^◌, [], ◌∷◌}
+use Rattle.std.specs.Prelude.{◌≡◌, pos, neg_ℤ, ◌-◌, ◌^◌, [], ◌∷◌}
 use Rattle.cpl_mediator.specs.Averages.{average_of, sum_at, sums_with}
 use Rattle.cpl_mediator.specs.Merges.{merge_of, sum_of_products}
 

@@ -2,12 +2,11 @@
 
 ghost use Rattle.std.specs.Prelude.{◌≡◌, ◌≤◌};
 
-use std::marker::Model;
-
 use crate::fault::AverageEmpty;
 use crate::sums::{add_numbers, take_averages};
 use cpl_base::Memory;
 use std::alloc::Global;
+use std::marker::Model;
 
 /// The whole fields that were kept since the last average, by their number and their sum at each cell. Contracts see
 /// these two; an `Accum` stands for each list of fields that has them.

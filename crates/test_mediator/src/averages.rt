@@ -47,7 +47,11 @@ const FEW: [(&[[i64; 2]], [i64; 2]); 12] = [
 const MANY: [([i64; 2], [i64; 2], [i64; 2]); 4] = [
     ([MOST, -MOST], [MOST, -MOST], [MOST, -MOST]),
     ([MOST, -MOST], [MOST - 1, 1 - MOST], [MOST, 1 - MOST]),
-    ([i64::MAX, i64::MIN], [i64::MAX, i64::MIN], [i64::MAX, i64::MIN]),
+    (
+        [i64::MAX, i64::MIN],
+        [i64::MAX, i64::MIN],
+        [i64::MAX, i64::MIN],
+    ),
     ([MOST, 1], [-MOST, -2], [0, 0]),
 ];
 

@@ -35,7 +35,10 @@ const CASES: [(&[(i64, i64)], i64); 17] = [
     (&[(MOST, UNIT)], MOST),
     (&[(MOST, UNIT), (1, UNIT)], MOST),
     (&[(-MOST, UNIT), (-1, UNIT)], -MOST),
-    (&[(MOST, UNIT), (MOST, UNIT), (-1, UNIT), (-MOST, UNIT)], MOST - 1),
+    (
+        &[(MOST, UNIT), (MOST, UNIT), (-1, UNIT), (-MOST, UNIT)],
+        MOST - 1,
+    ),
 ];
 
 /// As many terms as there may be, all like the first but those at odd places, which are like the second, and their

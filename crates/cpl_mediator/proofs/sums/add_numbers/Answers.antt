@@ -1,4 +1,4 @@
-use Rattle.std.proofs.Common.{◌≡◌, ◌<◌, ◌+◌, ℕ, length, pos, arith, rules, below_more}
+use Rattle.std.proofs.Common.{◌<◌, ◌+◌, length, pos, arith, rules, below_more}
 use Rattle.std.proofs.lemmas.Int.{ints}
 use Rattle.std.proofs.lemmas.List.Elements.{All-get_or, All-same}
 use Rattle.std.specs.Int.{w64}
