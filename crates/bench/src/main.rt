@@ -139,12 +139,7 @@ fn measure_sequence(
 }
 
 /// Prints a sum that was made in so much time.
-fn report_time(
-    rt: &(impl Print + Eprint),
-    name: &str,
-    time: Duration,
-    sum: i64,
-) -> io::Result<()> {
+fn report_time(rt: &(impl Print + Eprint), name: &str, time: Duration, sum: i64) -> io::Result<()> {
     println!(rt; "{name} {sum}")?;
     eprintln!(rt; "{name} {}", time.as_nanos())
 }

@@ -146,12 +146,12 @@ pub ArePlain-columns : (names : TraceNames) (row : TraceRow) (op component phase
 ArePlain-columns names row op component phase field stamp sum are placed has = record {
   some = omega arith;
   plain = All-cons IsPlain op (component ∷ phase ∷ field ∷ stamp ∷ sum ∷ []) (IsPlain-same op _ has.op_is (IsPlain-decimal row.op has.few))
-    (All-cons IsPlain component (phase ∷ field ∷ stamp ∷ sum ∷ []) (IsPlain-same component _ has.component_is (name_at-plain names.components row.component placed.component are.components))
+      (All-cons IsPlain component (phase ∷ field ∷ stamp ∷ sum ∷ []) (IsPlain-same component _ has.component_is (name_at-plain names.components row.component placed.component are.components))
       (All-cons IsPlain phase (field ∷ stamp ∷ sum ∷ []) (IsPlain-same phase _ has.phase_is (name_at-plain (names_at names.phases row.component) row.phase placed.phase (names_at-names names.phases row.component placed.phases are.phases)))
-        (All-cons IsPlain field (stamp ∷ sum ∷ []) (IsPlain-same field _ has.field_is (name_at-plain (names_at names.fields row.component) row.field placed.field (names_at-names names.fields row.component placed.fields are.fields)))
-          (All-cons IsPlain stamp (sum ∷ []) (IsPlain-same stamp _ has.stamp_is (IsPlain-integer row.stamp has.size))
-            (All-cons IsPlain sum [] (IsPlain-same sum _ has.sum_is (IsPlain-numeral (value_text row.sum) has.writes.numeral))
-              (All-nil IsPlain))))));
+      (All-cons IsPlain field (stamp ∷ sum ∷ []) (IsPlain-same field _ has.field_is (name_at-plain (names_at names.fields row.component) row.field placed.field (names_at-names names.fields row.component placed.fields are.fields)))
+      (All-cons IsPlain stamp (sum ∷ []) (IsPlain-same stamp _ has.stamp_is (IsPlain-integer row.stamp has.size))
+      (All-cons IsPlain sum [] (IsPlain-same sum _ has.sum_is (IsPlain-numeral (value_text row.sum) has.writes.numeral))
+      (All-nil IsPlain))))));
 }
 
 pub columns_of-columns : (names : TraceNames) (row : TraceRow) (op component phase field stamp sum : List ℕ) → HasColumns names row op component phase field stamp sum → op ∷ component ∷ phase ∷ field ∷ stamp ∷ sum ∷ [] ≡ columns_of names row

@@ -85,8 +85,8 @@ sum_at-merge_row op field row merge rest is (other ∷ others) =
     (λ _. ap (λ z. r +ℤ z) (is (other ∷ others)) ∙ plus-assoc r rest (o +ℤ s))
     (λ _ _. ap (λ z. o +ℤ z) (sum_at-merge_row op field row merge rest is others) ∙ plus-third o r rest s)
     (λ first second.
-        let same = is_at-key op field row other (HasKeyOf-neither row other first second) in
-        (λ i. part-joined (is_at op field row) (is_at op field other) row.sum other.sum same i +ℤ is others i) ∙ plus-join r o rest s)
+    let same = is_at-key op field row other (HasKeyOf-neither row other first second) in
+    (λ i. part-joined (is_at op field row) (is_at op field other) row.sum other.sum same i +ℤ is others i) ∙ plus-join r o rest s)
 
 -- a merged list has the sums of both
 pub sum_at-merge_rows : (op field : ℕ) (rows others : List TraceRow) → sum_at op field (merge_rows rows others) ≡ sum_at op field rows +ℤ sum_at op field others
@@ -143,16 +143,16 @@ IsAscending-merge_row row rows all is [] sorted = (behind row rows [] all (λ k 
 IsAscending-merge_row row rows all is (other ∷ others) sorted =
     pick (λ merged. IsAscending merged) (is_before row other) (is_before other row) (row ∷ merge_rows rows (other ∷ others)) (other ∷ merge_rows (row ∷ rows) others) (joined row other ∷ merge_rows rows others)
     (λ first. (
-        behind row rows (other ∷ others) all (All-cons (IsBehind row) other others first (further row other others first sorted.0)),
-        is (other ∷ others) sorted
+      behind row rows (other ∷ others) all (All-cons (IsBehind row) other others first (further row other others first sorted.0)),
+      is (other ∷ others) sorted,
     ))
     (λ _ second. (
-        behind other (row ∷ rows) others (All-cons (IsBehind other) row rows second (further other row rows second all)) sorted.0,
-        IsAscending-merge_row row rows all is others sorted.1
+      behind other (row ∷ rows) others (All-cons (IsBehind other) row rows second (further other row rows second all)) sorted.0,
+      IsAscending-merge_row row rows all is others sorted.1,
     ))
     (λ first second. (
-        behind row rows others all (All-weaker (IsBehind other) (IsBehind row) (λ later at. is_before-key row other later (HasKeyOf-neither row other first second) at) others sorted.0),
-        is others sorted.1
+      behind row rows others all (All-weaker (IsBehind other) (IsBehind row) (λ later at. is_before-key row other later (HasKeyOf-neither row other first second) at) others sorted.0),
+      is others sorted.1,
     ))
 
 -- lists in order are merged in order

@@ -98,22 +98,22 @@ unique-rows given (a ∷ xs) [] sorted_as sorted_bs keys sums known all_as all_b
 unique-rows given (a ∷ xs) (b ∷ ys) sorted_as sorted_bs keys sums known all_as all_bs = elim (cases_Bool (is_before a b)) [
   | inl first ↦ absurd (false≢true (sym (keys a.op a.field ∙ has_row-behind a b ys first sorted_bs) ∙ has_row-first a xs))
   | inr not_first ↦ elim (cases_Bool (is_before b a)) [
-      | inl second ↦ absurd (false≢true (sym (sym (keys b.op b.field) ∙ has_row-behind b a xs second sorted_as) ∙ has_row-first b ys))
-      | inr not_second ↦
-          let key = HasKeyOf-neither a b not_first not_second in
-          let like = IsLike-given given a b key (All-head (AgreesWith given) a xs all_as) (All-head (AgreesWith given) b ys all_bs) (known a.op a.field (has_row-first a xs)) in
-          let sum : a.sum ≡ b.sum = sym (sum_at-first a xs sorted_as.0) ∙ sums a.op a.field ∙ (λ i. sum_at (key.op i) (key.field i) (b ∷ ys)) ∙ sum_at-first b ys sorted_bs.0 in
-          let same : a ≡ b = λ i. record { op = like.op i; component = like.component i; phase = like.phase i; field = like.field i; stamp = like.stamp i; sum = sum i } in
-          let P : TraceRow → Type 0 = λ x. All (λ later. is_before x later ≡ true) ys in
-          let behind_bs = subst P (sym same) sorted_bs.0 in
-          let rest = unique-rows given xs ys sorted_as.1 sorted_bs.1
-            (λ op field. rest-keys op field a xs ys sorted_as.0 behind_bs (keys op field ∙ sym (ap (λ x. has_row op field (x ∷ ys)) same)))
-            (λ op field. cancel (cond (is_at op field a) a.sum (pos 0)) (sum_at op field xs) (cond (is_at op field b) b.sum (pos 0)) (sum_at op field ys) (sums op field) (ap (λ (x : TraceRow). cond (is_at op field x) x.sum (pos 0)) same))
-            (λ op field has. known op field (or-true (is_at op field a) (has_row op field xs) has))
-            (All-tail (AgreesWith given) a xs all_as)
-            (All-tail (AgreesWith given) b ys all_bs) in
-          λ i. same i ∷ rest i
-    ]
+    | inl second ↦ absurd (false≢true (sym (sym (keys b.op b.field) ∙ has_row-behind b a xs second sorted_as) ∙ has_row-first b ys))
+    | inr not_second ↦
+        let key = HasKeyOf-neither a b not_first not_second in
+        let like = IsLike-given given a b key (All-head (AgreesWith given) a xs all_as) (All-head (AgreesWith given) b ys all_bs) (known a.op a.field (has_row-first a xs)) in
+        let sum : a.sum ≡ b.sum = sym (sum_at-first a xs sorted_as.0) ∙ sums a.op a.field ∙ (λ i. sum_at (key.op i) (key.field i) (b ∷ ys)) ∙ sum_at-first b ys sorted_bs.0 in
+        let same : a ≡ b = λ i. record { op = like.op i; component = like.component i; phase = like.phase i; field = like.field i; stamp = like.stamp i; sum = sum i } in
+        let P : TraceRow → Type 0 = λ x. All (λ later. is_before x later ≡ true) ys in
+        let behind_bs = subst P (sym same) sorted_bs.0 in
+        let rest = unique-rows given xs ys sorted_as.1 sorted_bs.1
+        (λ op field. rest-keys op field a xs ys sorted_as.0 behind_bs (keys op field ∙ sym (ap (λ x. has_row op field (x ∷ ys)) same)))
+        (λ op field. cancel (cond (is_at op field a) a.sum (pos 0)) (sum_at op field xs) (cond (is_at op field b) b.sum (pos 0)) (sum_at op field ys) (sums op field) (ap (λ (x : TraceRow). cond (is_at op field x) x.sum (pos 0)) same))
+        (λ op field has. known op field (or-true (is_at op field a) (has_row op field xs) has))
+        (All-tail (AgreesWith given) a xs all_as)
+        (All-tail (AgreesWith given) b ys all_bs) in
+        λ i. same i ∷ rest i
+  ]
 ]
 
 -- two lists that given rows are merged to are equal

@@ -1,6 +1,6 @@
 //! Logs that are merged: small ones that the cases write out, and those of 64 PETs.
 
-ghost use Rattle.std.specs.Prelude.{◌≡◌, All, IsTrue};
+ghost use Rattle.std.specs.Prelude.{◌≡◌, ◌<◌, All, IsTrue};
 ghost use Rattle.cpl_trace.specs.Rows.{IsAscending, IsSmall, is_before};
 ghost use Rattle.test_trace.specs.Own.{IsOwn};
 
