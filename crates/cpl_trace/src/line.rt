@@ -21,7 +21,7 @@ pub(crate) struct Numbers {
 
 impl Numbers {
     /// No numbers yet.
-    pub fn new(alloc: Global) -> Numbers {
+    pub(crate) fn new(alloc: Global) -> Numbers {
         Numbers {
             op: Vec::new(alloc),
             stamp: Vec::new(alloc),
@@ -30,7 +30,7 @@ impl Numbers {
     }
 
     /// The texts of a row's numbers.
-    pub fn write(&mut self, row: &TraceRow) -> Result<(), Memory>
+    pub(crate) fn write(&mut self, row: &TraceRow) -> Result<(), Memory>
         ensures op { OnOk result (self.new.op.items ≡ decimal row.now.op) }
         ensures stamp { OnOk result (self.new.stamp.items ≡ integer_text row.now.stamp) }
         ensures sum { OnOk result (self.new.sum.items ≡ value_text row.now.sum) }
