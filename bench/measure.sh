@@ -9,13 +9,15 @@
 #   weights    a file of weights that is read, beside one pass over its bytes; a round is 1,024 records
 #   routes     routes of 1,024 by 1,024 cells, beside passes that write as many numbers
 #   rows       weighted sums of four factors and of sixteen, beside a plain loop of 64 bits
+#   mediator   sums and averages of kept fields, beside a loop of sums and one of divisions
 set -eu
 cd "$(dirname "$0")/../crates/bench"
-measure="${1:?values, prepared, formula, sequence, weights, rows or routes}"
+measure="${1:?values, prepared, formula, sequence, weights, rows, routes or mediator}"
 case "$measure" in
     sequence) rounds="${2:-400}" ;;
     routes) rounds="${2:-5000}" ;;
     weights) rounds="${2:-1024}" ;;
+    mediator) rounds="${2:-20000}" ;;
     formula | rows) rounds="${2:-10000}" ;;
     *) rounds="${2:-100000}" ;;
 esac
@@ -39,4 +41,6 @@ rt run > /dev/null 2>&1
         ratio("halo_of_columns", "written_halo_of_columns")
         ratio("rows_of_4", "plain_rows_of_4")
         ratio("rows_of_16", "plain_rows_of_16")
+        ratio("adds", "plain_adds")
+        ratio("averages", "plain_averages")
     }'

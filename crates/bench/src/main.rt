@@ -1,8 +1,8 @@
 //! How long the parts that matter take, each beside a plain path.
 //!
 //! The first word of the command line is the measure (`values`, `prepared`, `formula`, `sequence`, `weights`, `rows`,
-//! `routes`), the second how many thousands of rounds it makes; without words each measure makes one thousand. Checksums go to standard
-//! output, times in nanoseconds to standard error.
+//! `routes`, `mediator`), the second how many thousands of rounds it makes; without words each measure makes one
+//! thousand. Checksums go to standard output, times in nanoseconds to standard error.
 #![tactic(auto)]
 
 ghost use Rattle.std.specs.Prelude.{◌≡◌, All, length};
@@ -10,6 +10,7 @@ ghost use Rattle.cpl_base.specs.Numbers.{IsValue};
 
 mod cells;
 mod loops;
+mod mediator;
 mod passes;
 mod products;
 mod routes;
@@ -18,8 +19,10 @@ mod weights;
 
 use cells::{formula_sum, plain_sum, tree};
 use cpl_base::Divisor;
+use cpl_mediator::Accum;
 use cpl_runseq::Cursor;
 use loops::sequence;
+use mediator::{above, add, averages, plain_add, plain_averages};
 use passes::{next_sum, op_sum};
 use products::{
     plain_products, plain_quotients, prepared_quotients, products, quotients, quotients_by,
@@ -27,7 +30,7 @@ use products::{
 use routes::{divided, halo_sum, redist_sum, written_sum};
 use std::alloc::Global;
 use std::rt::{Clock, Env};
-use std::time::Instant;
+use std::time::{Duration, Instant};
 use std::{env, io};
 use table::table;
 use weights::{plain_pass, plain_rows, read_sum, rows_sum, text, weights};
@@ -233,6 +236,44 @@ fn measure_routes(
     report(rt, "halo_of_columns", start, sum)
 }
 
+/// Prints a sum that was made in so much time.
+fn report_time(rt: &(impl Print + Eprint), name: &str, time: Duration, sum: i64) -> io::Result<()> {
+    println!(rt; "{name} {sum}")?;
+    eprintln!(rt; "{name} {}", time.as_nanos())
+}
+
+/// Fields that are kept, and their averages.
+fn measure_mediator(
+    rt: &(impl Clock + Print + Eprint),
+    alloc: Global,
+    values: &[i64],
+    rounds: u64,
+) -> io::Result<()>
+    requires { length values.now ≡ 1029 }
+{
+    let (Ok(mut accum), Ok(mut sums), Ok(mut into)) = (
+        Accum::new(alloc, 1029),
+        Vec::from_elem(alloc, 0i128, 1029),
+        Vec::from_elem(alloc, 0i64, 1029),
+    ) else {
+        return eprintln!(rt; "out of memory");
+    };
+    let start = Instant::now(rt)?;
+    add(&mut accum, values, rounds);
+    let time = start.elapsed(rt)?;
+    let start = Instant::now(rt)?;
+    plain_add(sums.as_mut_slice(), values, rounds);
+    report(rt, "plain_adds", start, above(values))?;
+    let _ = accum.average(into.as_mut_slice());
+    report_time(rt, "adds", time, above(into.as_slice()))?;
+    // Not known when the program is built, so that no division by it becomes a product.
+    let count = 3 + rounds % 2;
+    let time = averages(rt, &mut accum, values, into.as_mut_slice(), count, rounds)?;
+    report_time(rt, "averages", time, above(into.as_slice()))?;
+    let time = plain_averages(rt, values, into.as_mut_slice(), count as i64, rounds)?;
+    report_time(rt, "plain_averages", time, above(into.as_slice()))
+}
+
 fn main(rt: HostRuntime) -> io::Result<()> {
     let asked = word(&rt, 1)?;
     let rounds = word(&rt, 2)?
@@ -259,6 +300,9 @@ fn main(rt: HostRuntime) -> io::Result<()> {
     }
     if is_asked(&asked, "routes") {
         measure_routes(&rt, rt.alloc(), rounds)?;
+    }
+    if is_asked(&asked, "mediator") {
+        measure_mediator(&rt, rt.alloc(), values.as_slice(), rounds)?;
     }
     Ok(())
 }

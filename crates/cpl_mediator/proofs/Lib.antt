@@ -1,0 +1,3 @@
+mod AveragesFacts
+mod MergesFacts
+mod NearFacts

@@ -1,0 +1,4 @@
+mod LineFacts
+mod MergingFacts
+mod OrderFacts
+mod UniqueFacts

@@ -1,0 +1,7 @@
+//! Tests of traces: logs that are merged, and the text.
+#![tactic(auto)]
+
+#[cfg(test)]
+mod logs;
+#[cfg(test)]
+mod texts;
