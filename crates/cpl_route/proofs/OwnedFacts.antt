@@ -1,20 +1,20 @@
 -- Parts that PETs own, and stretches of them.
-use Rattle.std.proofs.Common.{◌≡◌, ℕ, ◌+◌, ◌-◌, ◌*◌, ◌/◌, ◌%◌, ◌<◌, ◌≤◌, ◌⊎◌, ◌&&◌, Bool, true, false, not, eqb, ltb, List, [], ◌++◌, length, get_or, filter, set, refl, sym, ap, subst, ◌∙◌, inl, inr, arith, length-set}
-use Rattle.std.proofs.lemmas.Bool.{cases_Bool, cases_lt, eq-eqb, false_from_ne_true, lt-ltb, le-ltb, ne_eqb}
+use Rattle.std.proofs.Common.{◌≡◌, ℕ, ◌+◌, ◌-◌, ◌*◌, ◌/◌, ◌<◌, ◌≤◌, ◌⊎◌, ◌&&◌, Bool, true, false, List, length, get_or, filter, set, refl, sym, ap, subst, ◌∙◌, inl, inr, arith, length-set}
+use Rattle.std.proofs.lemmas.Bool.{cases_lt, eq-eqb, lt-ltb, le-ltb, ne_eqb}
 use Rattle.std.proofs.lemmas.List.{get_or-set_other, get_or-set_same}
 use Rattle.std.proofs.lemmas.List.FromFn.{get_or-range_with_len, length-range_with_len}
 use Rattle.std.proofs.Math.Nat.{le_of_mul-le-mul_left, mul-le-mul_right, mul_comm}
 use Rattle.std.proofs.Math.Bool.{and-false, and-true}
-use Rattle.std.proofs.lemmas.Nat.{div-add-mod', div_below, mod_below}
+use Rattle.std.proofs.lemmas.Nat.{div_below}
 use Rattle.cpl_grid.specs.Blocks.{Holds}
-use Rattle.cpl_grid.specs.Grid.{IsCell, IsColumn, IsGrid, IsNumbering, IsRow, cells_in, column_of, index_of, row_of}
-use Rattle.cpl_grid.specs.Owners.{IsPartOf, IsPet, Layout, cells_of, owner_of, part_of, pets_in}
+use Rattle.cpl_grid.specs.Grid.{IsColumn, IsNumbering, IsRow, column_of, index_of, row_of}
+use Rattle.cpl_grid.specs.Owners.{IsPartOf, Layout, owner_of, part_of, pets_in}
 use Rattle.cpl_grid.specs.Parts.{IsInPart, cells_of_part}
 use Rattle.cpl_grid.specs.declared.blocks.Block.{Block}
 use Rattle.cpl_grid.specs.declared.blocks.Part.{Part}
 use Rattle.cpl_grid.specs.declared.grid.Grid.{Grid}
-use Rattle.cpl_route.specs.Kept.{HasPartsTo, IsOwned}
-use Rattle.cpl_route.specs.Places.{AreAlike, AreRowsAlike, IsStretch, cell_in, is_held}
+use Rattle.cpl_route.specs.Kept.{HasPartsTo}
+use Rattle.cpl_route.specs.Places.{AreAlike, IsStretch, cell_in, is_held}
 use Rattle.cpl_route.specs.Routes.{is_owned, pets_of, shared_cells}
 use Rattle.cpl_route.specs.declared.needs.Stretch.{Stretch}
 

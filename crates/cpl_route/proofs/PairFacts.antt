@@ -1,14 +1,12 @@
 -- What is kept of each PET for a halo.
-use Rattle.std.proofs.Common.{◌≡◌, ℕ, ◌+◌, ◌-◌, ◌<◌, ◌≤◌, Bool, true, ℤ, List, [], ◌++◌, length, get_or, set, filter, refl, sym, ap, subst, ◌∙◌, inl, inr, arith, length-set}
+use Rattle.std.proofs.Common.{◌≡◌, ℕ, ◌+◌, ◌<◌, ℤ, List, length, set, filter, sym, subst, ◌∙◌, inl, inr, arith, length-set}
 use Rattle.std.proofs.lemmas.Bool.{cases_lt}
 use Rattle.std.proofs.lemmas.List.{get_or-set_other, get_or-set_same}
-use Rattle.cpl_grid.specs.Owners.{IsPartOf, Layout, pets_in}
+use Rattle.cpl_grid.specs.Owners.{IsPartOf, Layout}
 use Rattle.cpl_grid.specs.Parts.{cells_of_part}
 use Rattle.cpl_grid.specs.declared.blocks.Part.{Part}
-use Rattle.cpl_grid.specs.declared.grid.Grid.{Grid}
 use Rattle.cpl_route.proofs.OwnedFacts.{shared-part}
 use Rattle.cpl_route.specs.Halos.{HasPairsTo, IsPairOf}
-use Rattle.cpl_route.specs.Reach.{IsSound}
 use Rattle.cpl_route.specs.Routes.{is_halo, shared_cells}
 use Rattle.cpl_route.specs.declared.halo_pair.HaloPair.{HaloPair}
 

@@ -1,8 +1,8 @@
 -- Lists of cells that PETs need: ascending lists, and which PETs have one.
-use Rattle.std.proofs.Common.{◌≡◌, ℕ, zero, suc, ◌+◌, ◌-◌, ◌*◌, ◌<◌, ◌≤◌, ◌⊎◌, ◌&&◌, ◌||◌, Bool, true, false, cond, eqb, leb, ltb, List, [], ◌∷◌, ◌++◌, length, get_or, map, filter, refl, sym, ap, subst, ◌∙◌, inl, inr, arith, eqb-true, IsPermutation}
+use Rattle.std.proofs.Common.{◌≡◌, ℕ, zero, suc, ◌+◌, ◌-◌, ◌<◌, ◌≤◌, ◌&&◌, Bool, true, false, cond, eqb, leb, ltb, List, [], ◌∷◌, ◌++◌, length, get_or, map, filter, refl, sym, ap, subst, ◌∙◌, inl, inr, arith, IsPermutation}
 use Rattle.std.specs.List.{All, flat_map, list_any, range_with_len}
 use Rattle.std.specs.List.Sorted.{IsNonDecreasingBy, IsPartitionPoint, IsPartitionedBy}
-use Rattle.std.proofs.lemmas.Bool.{and_parts, cases_Bool, cases_lt, cases_order, eq-eqb, false_from_ne_true, leb-true, le-leb, ltb-false, ltb-true, lt-ltb, le-ltb, ne_eqb}
+use Rattle.std.proofs.lemmas.Bool.{and_parts, cases_Bool, cases_lt, eq-eqb, leb-true, le-leb, ltb-false, ltb-true, lt-ltb, ne_eqb}
 use Rattle.std.proofs.Math.Bool.{or-false}
 use Rattle.std.proofs.lemmas.List.{get_or-map, length-map}
 use Rattle.std.proofs.lemmas.List.Elements.{All-filter, All-from_get_or, All-head, All-tail}
@@ -16,7 +16,7 @@ use Rattle.cpl_grid.specs.declared.grid.Grid.{Grid}
 use Rattle.cpl_route.proofs.OwnedFacts.{shared-part}
 use Rattle.cpl_route.proofs.RouteFacts.{rising-filter, rising-range}
 use Rattle.cpl_route.proofs.WalkFacts.{length-filter-le}
-use Rattle.cpl_route.specs.Picks.{AreAlikeBelow, AreCopies, ArePickedAlike, IsRun, has_list, is_listed}
+use Rattle.cpl_route.specs.Picks.{AreCopies, ArePickedAlike, has_list, is_listed}
 use Rattle.cpl_route.specs.Places.{IsStretch, cell_in}
 use Rattle.cpl_route.specs.Routes.{ArePetsDistinct, IsRising, are_ascending, are_ascending_from, has_cells, is_ascending, is_picked, leg_between, legs_from, pets_of, pick_route, pickers_of, route_of, shared_cells}
 use Rattle.cpl_route.specs.declared.need.Need.{Need}

@@ -1,18 +1,18 @@
 -- Routes: their pairs ascend, and a pair is found by halving.
-use Rattle.std.proofs.Common.{◌≡◌, ℕ, zero, suc, ◌+◌, ◌-◌, ◌*◌, ◌<◌, ◌≤◌, ◌⊎◌, ◌&&◌, ◌||◌, Bool, true, false, eqb, ltb, List, [], ◌∷◌, ◌++◌, length, get_or, take, drop, map, filter, Ok, Some, refl, sym, ap, subst, ◌∙◌, inl, inr, arith, eqb-true}
-use Rattle.std.specs.Prelude.{if◌then◌else◌, slice_get, slice_range}
+use Rattle.std.proofs.Common.{◌≡◌, ℕ, zero, suc, ◌+◌, ◌*◌, ◌<◌, ◌≤◌, ◌&&◌, Bool, true, false, eqb, ltb, List, [], ◌∷◌, ◌++◌, length, get_or, map, filter, Ok, Some, refl, sym, ap, subst, ◌∙◌, inl, inr, arith, eqb-true}
+use Rattle.std.specs.Prelude.{slice_get, slice_range}
 use Rattle.std.specs.List.{All, flat_map, range_with_len}
-use Rattle.std.proofs.lemmas.Bool.{and_parts, cases_Bool, cases_lt, cases_order, eq-eqb, lt-ltb, le-ltb, ne_eqb}
+use Rattle.std.proofs.lemmas.Bool.{and_parts, cases_Bool, cases_lt, cases_order, eq-eqb, lt-ltb, le-ltb}
 use Rattle.std.proofs.lemmas.List.{get_or_default, map-append}
 use borrow.Author.Tests.{ltb-false, ltb-true}
-use Rattle.std.proofs.lemmas.List.Elements.{All-append, All-cons, All-head, All-nil, All-tail, All-weaker}
+use Rattle.std.proofs.lemmas.List.Elements.{All-append, All-cons, All-head, All-nil, All-tail}
 use Rattle.std.proofs.lemmas.List.Sorted.{IsNonDecreasingBy-from_default, IsPartitionedBy-ltb}
 use Rattle.std.proofs.lemmas.Option.{none-some}
 use Rattle.std.specs.List.Sorted.{IsNonDecreasingBy, IsPartitionPoint, IsPartitionedBy}
 use Rattle.cpl_grid.proofs.RangeFacts.{All-range}
 use Rattle.cpl_grid.specs.Grid.{cells_in}
 use Rattle.cpl_grid.specs.Owners.{IsLayout, Layout, pets_in}
-use Rattle.cpl_route.specs.Routes.{AreAscending, AreLegs, IsRising, Leg, cells_between, cells_sent, ends_of, has_cells, is_before, is_between, leg_between, legs_from, pets_of, redist_answer, redist_route, route_of}
+use Rattle.cpl_route.specs.Routes.{AreLegs, IsRising, Leg, cells_between, ends_of, has_cells, is_before, is_between, leg_between, legs_from, pets_of, redist_answer, redist_route, route_of}
 use Rattle.cpl_route.specs.Tables.{AreRankedLegs, IsSpan, leg_at, leg_rank, legs_at, pairs_of, rank_of, span_rank}
 use Rattle.cpl_route.specs.declared.table.Span.{Span}
 

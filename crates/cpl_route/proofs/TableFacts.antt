@@ -1,8 +1,8 @@
 -- Tables of legs: what one more leg does, and how many cells they have.
-use Rattle.std.proofs.Common.{◌≡◌, ℕ, zero, suc, ◌+◌, ◌-◌, ◌*◌, ◌<◌, ◌≤◌, ◌^◌, Bool, true, false, ltb, List, [], ◌∷◌, ◌++◌, length, get_or, take, drop, map, filter, sum_by, refl, sym, ap, subst, ◌∙◌, inl, inr, arith, append_assoc, length-append, length-drop, take_all, zero-add}
+use Rattle.std.proofs.Common.{◌≡◌, ℕ, suc, ◌+◌, ◌-◌, ◌*◌, ◌<◌, ◌≤◌, ◌^◌, Bool, true, false, List, [], ◌∷◌, ◌++◌, length, get_or, take, drop, map, filter, refl, sym, ap, ◌∙◌, inl, inr, arith, append_assoc, length-append, length-drop, take_all}
 use Rattle.std.specs.Prelude.{if◌then◌else◌, nat_lt, slice_range}
 use Rattle.std.specs.List.{All, flat_map, range_with_len}
-use Rattle.std.proofs.lemmas.Bool.{cases_Bool, cases_lt, lt-ltb, le-ltb}
+use Rattle.std.proofs.lemmas.Bool.{cases_lt, lt-ltb, le-ltb}
 use Rattle.std.proofs.lemmas.Grind.{flat_map-append}
 use Rattle.std.proofs.lemmas.List.{append-nil, drop-append-le, map-append, take-append-le, take_more}
 use Rattle.std.proofs.lemmas.List.Concat.{length-flat_map}
@@ -11,7 +11,7 @@ use Rattle.std.proofs.lemmas.List.Sums.{sum_by-append}
 use Rattle.std.proofs.Math.Seq.{drop-append_seam}
 use Rattle.cpl_grid.proofs.RangeFacts.{range-suc}
 use Rattle.cpl_grid.specs.Owners.{Layout, pets_in}
-use Rattle.cpl_route.specs.Routes.{Leg, cells_sent, has_cells, leg_between, legs_from, pets_of, route_of, shared_cells}
+use Rattle.cpl_route.specs.Routes.{Leg, cells_sent, has_cells, leg_between, legs_from, route_of, shared_cells}
 use Rattle.cpl_route.specs.Tables.{HasLegs, HasReceivers, HasSenders, IsSpan, IsTable, leg_at, legs_at}
 use Rattle.cpl_route.specs.declared.table.Span.{Span}
 

@@ -13,13 +13,13 @@ use Rattle.std.proofs.Math.Nat.{mul-le-mul_right, mul_comm}
 use Rattle.std.proofs.Math.Seq.{drop-append_seam, take-append_seam}
 use Rattle.cpl_grid.proofs.BoxFacts.{length-rows}
 use Rattle.cpl_grid.proofs.RangeFacts.{filter-range_all, filter-range_append, filter-range_none, All-range, range-append, range-suc}
-use Rattle.cpl_grid.specs.Grid.{IsGrid, cells_in}
+use Rattle.cpl_grid.specs.Grid.{IsGrid}
 use Rattle.cpl_grid.specs.Parts.{IsPart, cells_of_part, part_cell, part_row}
 use Rattle.cpl_grid.specs.declared.blocks.Block.{Block}
 use Rattle.cpl_grid.specs.declared.blocks.Part.{Part}
 use Rattle.cpl_grid.specs.declared.grid.Grid.{Grid}
 use Rattle.cpl_route.specs.Places.{AreAlike, AreRowsAlike, IsStretch, cell_in, in_rows, needed_in_row, needed_in_rows}
-use Rattle.cpl_route.specs.Walks.{HasCopied, HasCounted, HasCountedRows, IsAlong, IsDown, IsPassing, needed_so_far}
+use Rattle.cpl_route.specs.Walks.{HasCopied, HasCounted, HasCountedRows, IsAlong, IsDown, needed_so_far}
 use Rattle.cpl_route.specs.declared.needs.Stretch.{Stretch}
 
 -- a filter goes into each piece

@@ -2,7 +2,6 @@
 use Rattle.std.specs.Prelude.{◌≡◌, ℕ, ◌+◌, ◌<◌, ℤ, List, length, get_or}
 use Rattle.cpl_grid.specs.Owners.{Layout, pets_in}
 use Rattle.cpl_route.specs.Reach.{IsSound}
-use Rattle.cpl_route.specs.Routes.{AreOffsets}
 use Rattle.cpl_route.specs.declared.halo_pair.HaloPair.{HaloPair}
 
 -- what is kept of a PET is of this layout, these offsets and this PET

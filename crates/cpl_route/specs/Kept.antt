@@ -1,5 +1,5 @@
 -- What is kept of decomposed grids. The steps of the code, not needed to read what the calls promise.
-use Rattle.std.specs.Prelude.{◌≡◌, ℕ, ◌+◌, ◌<◌, ◌≤◌, List, length, get_or}
+use Rattle.std.specs.Prelude.{◌≡◌, ℕ, ◌+◌, ◌<◌, List, length, get_or}
 use Rattle.cpl_grid.specs.Grid.{IsGrid, cells_in}
 use Rattle.cpl_grid.specs.Owners.{IsLayout, IsPartOf, Layout, part_of, pets_in}
 use Rattle.cpl_grid.specs.declared.blocks.Part.{Part}

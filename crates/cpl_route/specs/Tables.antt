@@ -1,5 +1,5 @@
 -- A table of legs over one list of cells. The steps of the code, not needed to read what the calls promise.
-use Rattle.std.specs.Prelude.{◌≡◌, ℕ, ◌+◌, ◌*◌, ◌<◌, ◌≤◌, ◌++◌, Bool, List, [], ◌∷◌, length, map, slice_range, take, ◌-◌, ◌^◌}
+use Rattle.std.specs.Prelude.{◌≡◌, ℕ, ◌+◌, ◌*◌, ◌<◌, ◌≤◌, ◌++◌, Bool, List, length, map, slice_range, take, ◌-◌, ◌^◌}
 use Rattle.std.specs.List.{All, flat_map, range_with_len}
 use Rattle.cpl_route.specs.Routes.{IsRising, Leg, cells_sent, legs_from}
 use Rattle.cpl_grid.specs.Owners.{Layout}

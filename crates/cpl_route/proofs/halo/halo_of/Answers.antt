@@ -1,4 +1,4 @@
-use Rattle.std.proofs.Common.{◌≡◌, ◌+◌, ◌<◌, arith, ap, ◌∙◌, sym, rules}
+use Rattle.std.proofs.Common.{◌≡◌, ◌+◌, arith, ap, ◌∙◌}
 use Rattle.cpl_route.proofs.PairFacts.{pairs-more}
 use Rattle.cpl_route.proofs.halo.halo_of.Goals as goal
 

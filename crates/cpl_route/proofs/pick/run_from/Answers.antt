@@ -1,5 +1,5 @@
 use Rattle.std.proofs.Common.{arith}
-use Rattle.cpl_route.proofs.PickFacts.{ascending-order, listed-at}
+use Rattle.cpl_route.proofs.PickFacts.{ascending-order}
 use Rattle.cpl_route.proofs.pick.run_from.Goals as goal
 
 pub overflow_sub-ahead : goal.overflow_sub-ahead

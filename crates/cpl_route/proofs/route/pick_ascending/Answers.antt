@@ -1,4 +1,4 @@
-use Rattle.std.proofs.Common.{sym, ap, ◌∙◌, arith}
+use Rattle.std.proofs.Common.{◌∙◌}
 use Rattle.cpl_route.specs.Routes.{pick_route, pickers_of}
 use Rattle.cpl_route.proofs.PickFacts.{pickers-bytes, pickers-few, pickers-rising}
 use Rattle.cpl_route.proofs.RouteFacts.{route-ranked}

@@ -1,4 +1,4 @@
-use Rattle.std.proofs.Common.{◌≡◌, length, rules, of_calls, ltb, ◌∙◌, sym, arith, ◌<◌, ◌≤◌, false, true, ◌&&◌, eqb, get_or}
+use Rattle.std.proofs.Common.{rules, of_calls, ltb, ◌∙◌, sym, arith, get_or}
 use Rattle.std.proofs.lemmas.Fn.{always_returns_same}
 use Rattle.std.proofs.lemmas.List.{get_or_default}
 use Rattle.cpl_route.specs.declared.table.Span.{Span}

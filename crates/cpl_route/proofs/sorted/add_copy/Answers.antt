@@ -1,4 +1,4 @@
-use Rattle.std.proofs.Common.{ap, arith, sym, ◌∙◌}
+use Rattle.std.proofs.Common.{ap, arith, ◌∙◌}
 use Rattle.cpl_route.specs.Picks.{is_listed}
 use Rattle.cpl_route.proofs.PickFacts.{copies-pass, copies-push}
 use Rattle.cpl_route.proofs.sorted.add_copy.Goals as goal

@@ -1,6 +1,5 @@
-use Rattle.std.proofs.Common.{◌≡◌, sym, ap, ◌∙◌, rules, true, IsPermutation}
+use Rattle.std.proofs.Common.{◌≡◌, ap, ◌∙◌, rules}
 use Rattle.std.proofs.lemmas.List.Sorted.{IsNonDecreasingBy-from_sort}
-use Rattle.cpl_route.specs.Routes.{is_ascending}
 use Rattle.cpl_route.specs.Picks.{is_listed}
 use Rattle.cpl_route.proofs.PickFacts.{sorted-ascending, sorted-listed}
 use Rattle.cpl_route.proofs.sorted.ascending_copy.Goals as goal

@@ -1,4 +1,4 @@
-use Rattle.std.proofs.Common.{◌≡◌, ◌≢◌, ℕ, ◌<◌, get_or}
+use Rattle.std.proofs.Common.{◌≢◌, ℕ, ◌<◌, get_or}
 use Rattle.cpl_route.specs.declared.need.Need.{Need}
 use Rattle.cpl_route.proofs.sorted.place_of.Given as goal
 

@@ -1,4 +1,4 @@
-use Rattle.std.proofs.Common.{◌≡◌, ◌<◌, ℕ, length, get_or, rules, refl, sym, subst, arith}
+use Rattle.std.proofs.Common.{◌≡◌, ◌<◌, ℕ, length, get_or, rules, subst, arith}
 use Rattle.cpl_route.specs.Routes.{shared_cells}
 use Rattle.cpl_route.specs.declared.table.Span.{Span}
 use Rattle.cpl_route.proofs.TableFacts.{legs-add}

@@ -1,6 +1,4 @@
-use Rattle.std.proofs.Common.{◌≡◌, ◌<◌, length, take, arith, subst, take_all}
-use Rattle.cpl_route.specs.Routes.{legs_from}
-use Rattle.cpl_route.specs.Tables.{HasLegs}
+use Rattle.std.proofs.Common.{◌<◌, length, arith, take_all}
 use Rattle.cpl_route.proofs.TableFacts.{legs-append, legs-none, legs_from-more}
 use Rattle.cpl_route.proofs.table.add_sender.Goals as goal
 

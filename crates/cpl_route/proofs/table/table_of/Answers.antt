@@ -1,8 +1,6 @@
-use Rattle.std.proofs.Common.{◌≡◌, ◌+◌, ◌-◌, [], ap, sym, ◌∙◌, arith}
-use Rattle.std.specs.List.{flat_map, range_with_len}
+use Rattle.std.proofs.Common.{◌≡◌, ◌+◌, [], arith}
 use Rattle.cpl_grid.specs.Owners.{pets_in}
 use Rattle.cpl_route.specs.Routes.{legs_from}
-use Rattle.cpl_route.specs.Tables.{HasLegs}
 use Rattle.cpl_route.proofs.TableFacts.{legs-append, legs-none, route-all, route-more, route-none, table-empty}
 use Rattle.cpl_route.proofs.table.table_of.Goals as goal
 

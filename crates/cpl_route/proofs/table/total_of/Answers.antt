@@ -1,4 +1,4 @@
-use Rattle.std.proofs.Common.{◌≡◌, ◌+◌, ap, sym, ◌∙◌, arith}
+use Rattle.std.proofs.Common.{◌≡◌, ◌+◌, ap, ◌∙◌, arith}
 use Rattle.cpl_grid.specs.Owners.{pets_in}
 use Rattle.cpl_route.specs.Routes.{cells_sent}
 use Rattle.cpl_route.proofs.TableFacts.{route-all, senders-more}

@@ -1,4 +1,4 @@
-use Rattle.std.proofs.Common.{◌≡◌, ◌+◌, ◌-◌, ◌*◌, ◌<◌, ◌≤◌, length, arith, rules, get_or, vec_len, ◌∙◌, sym}
+use Rattle.std.proofs.Common.{◌≡◌, ◌+◌, ◌-◌, ◌*◌, ◌≤◌, length, arith, rules, vec_len, ◌∙◌}
 use Rattle.std.proofs.lemmas.Grind.{get_or_default_zero}
 use Rattle.std.proofs.lemmas.Nat.{mul-le}
 use Rattle.cpl_route.proofs.WalkFacts.{copied-all, copied-fits, copied-length, copied-more, copied-none, copies-turned, copy-inside, pos-of_mul}

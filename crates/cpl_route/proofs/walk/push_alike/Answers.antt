@@ -1,4 +1,4 @@
-use Rattle.std.proofs.Common.{◌≡◌, ◌+◌, ◌≤◌, ◌*◌, length, arith, rules, ap, length-append}
+use Rattle.std.proofs.Common.{◌≡◌, length, arith, rules, ap, length-append}
 use Rattle.std.proofs.Math.Nat.{le-mul_of_pos_right}
 use Rattle.cpl_route.specs.Places.{needed_in_row}
 use Rattle.cpl_route.proofs.WalkFacts.{alike-copied, appended, needed_in_row-few, row-fits}

@@ -1,4 +1,4 @@
-use Rattle.std.proofs.Common.{◌≡◌, refl, ap, sym, ◌∙◌, length}
+use Rattle.std.proofs.Common.{refl, ap, sym, ◌∙◌, length}
 use Rattle.cpl_route.specs.Routes.{is_halo, shared_cells}
 use Rattle.cpl_route.proofs.PairFacts.{pair-part, shared-halo}
 use Rattle.cpl_route.proofs.halo.HaloSharing.count.Goals as goal

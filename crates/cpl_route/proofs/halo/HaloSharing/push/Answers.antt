@@ -1,4 +1,4 @@
-use Rattle.std.proofs.Common.{◌≡◌, refl, ap, sym, ◌∙◌, ◌++◌}
+use Rattle.std.proofs.Common.{refl, ap, sym, ◌∙◌, ◌++◌}
 use Rattle.std.proofs.lemmas.List.{append-nil}
 use Rattle.cpl_route.specs.Routes.{is_halo, shared_cells}
 use Rattle.cpl_route.proofs.PairFacts.{pair-part, shared-halo}

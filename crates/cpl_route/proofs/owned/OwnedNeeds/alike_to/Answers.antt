@@ -1,5 +1,5 @@
-use Rattle.std.proofs.Common.{◌≡◌, arith, rules, ◌∙◌, sym, ap}
-use Rattle.cpl_route.proofs.OwnedFacts.{alike-itself, owned-alike, same-height}
+use Rattle.std.proofs.Common.{◌≡◌, ◌∙◌, ap}
+use Rattle.cpl_route.proofs.OwnedFacts.{owned-alike, same-height}
 use Rattle.cpl_route.proofs.owned.OwnedNeeds.alike_to.Goals as goal
 
 pub returns-then-self-grid : goal.returns-then-self-grid

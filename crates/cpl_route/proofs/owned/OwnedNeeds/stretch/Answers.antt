@@ -1,4 +1,4 @@
-use Rattle.std.proofs.Common.{◌≡◌, ◌+◌, ◌*◌, ◌≤◌, ◌-◌, ◌/◌, ◌%◌, arith, rules, ◌∙◌, sym, ap}
+use Rattle.std.proofs.Common.{◌≡◌, ◌+◌, ◌*◌, ◌/◌, ◌%◌, arith, ◌∙◌, ap}
 use Rattle.std.proofs.lemmas.Nat.{div-add-mod'}
 use Rattle.cpl_route.proofs.OwnedFacts.{row-elsewhere, same-height, stretch-elsewhere}
 use Rattle.cpl_route.proofs.owned.OwnedNeeds.stretch.Goals as goal

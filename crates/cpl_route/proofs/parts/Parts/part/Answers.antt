@@ -1,5 +1,5 @@
-use Rattle.std.proofs.Common.{◌≡◌, ◌+◌, ◌-◌, ◌<◌, arith, ap, ◌∙◌}
-use Rattle.cpl_grid.specs.Owners.{part_of, pets_in}
+use Rattle.std.proofs.Common.{◌≡◌, ◌+◌, ◌<◌, arith}
+use Rattle.cpl_grid.specs.Owners.{pets_in}
 use Rattle.cpl_route.proofs.parts.Parts.part.Goals as goal
 
 pub returns-clause-is_part : goal.returns-clause-is_part

@@ -1,4 +1,4 @@
-use Rattle.std.proofs.Common.{arith, ◌≡◌, refl}
+use Rattle.std.proofs.Common.{arith, refl}
 use Rattle.cpl_route.proofs.PickFacts.{stretch-behind, stretch-between, stretch-run}
 use Rattle.cpl_route.proofs.pick.ListedNeeds.stretch.Goals as goal
 

@@ -1,4 +1,4 @@
-use Rattle.std.proofs.Common.{◌≡◌, true, sym, ap, ◌∙◌, get_or, subst}
+use Rattle.std.proofs.Common.{ap, ◌∙◌}
 use Rattle.cpl_route.specs.Routes.{is_ascending}
 use Rattle.cpl_route.proofs.PickFacts.{cells-ascending}
 use Rattle.cpl_route.proofs.pick.Pick.listed.Goals as goal

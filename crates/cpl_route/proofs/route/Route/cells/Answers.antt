@@ -1,4 +1,3 @@
-use Rattle.std.proofs.Common.{◌≡◌, sym, ap, ◌∙◌, rules}
 use Rattle.cpl_route.proofs.RouteFacts.{ranks-spans}
 use Rattle.cpl_route.proofs.route.Route.cells.Goals as goal
 

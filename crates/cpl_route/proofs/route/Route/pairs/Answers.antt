@@ -1,4 +1,4 @@
-use Rattle.std.proofs.Common.{sym, ap, ◌∙◌}
+use Rattle.std.proofs.Common.{ap, ◌∙◌}
 use Rattle.cpl_route.specs.Routes.{ends_of}
 use Rattle.cpl_route.proofs.RouteFacts.{legs-ranked, pairs-ends}
 use Rattle.cpl_route.proofs.route.Route.pairs.Goals as goal

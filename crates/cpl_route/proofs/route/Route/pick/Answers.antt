@@ -1,4 +1,4 @@
-use Rattle.std.proofs.Common.{sym, ap, ◌∙◌}
+use Rattle.std.proofs.Common.{ap, ◌∙◌}
 use Rattle.cpl_route.specs.Routes.{pick_route}
 use Rattle.cpl_route.proofs.PickFacts.{route-alike}
 use Rattle.cpl_route.proofs.route.Route.pick.Goals as goal

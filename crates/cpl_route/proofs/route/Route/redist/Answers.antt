@@ -1,7 +1,6 @@
-use Rattle.std.proofs.Common.{◌≡◌, ◌≢◌, sym, ap, ◌∙◌, rules, arith, subst, Ok}
+use Rattle.std.proofs.Common.{◌≡◌, sym, ap, ◌∙◌, Ok}
 use Rattle.cpl_grid.specs.Grid.{cells_in}
 use Rattle.cpl_route.specs.Routes.{pets_of, redist_route}
-use Rattle.cpl_route.specs.Tables.{AreRankedLegs}
 use Rattle.cpl_route.proofs.RouteFacts.{answer-ok, pets-bytes, pets-rising, route-ranked}
 use Rattle.cpl_route.proofs.TableFacts.{legs-all}
 use Rattle.cpl_route.proofs.route.Route.redist.Goals as goal
