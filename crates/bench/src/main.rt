@@ -1,7 +1,7 @@
 //! How long the parts that matter take, each beside a plain path.
 //!
-//! The first word of the command line is the measure (`values`, `prepared`, `formula`, `sequence`, `mediator`), the second how many
-//! thousands of rounds it makes; without words each measure makes one thousand. Checksums go to standard
+//! The first word of the command line is the measure (`values`, `prepared`, `formula`, `sequence`, `mediator`), the second
+//! how many thousands of rounds it makes; without words each measure makes one thousand. Checksums go to standard
 //! output, times in nanoseconds to standard error.
 #![tactic(auto)]
 
