@@ -31,7 +31,8 @@ impl Model for Accum {
 }
 
 impl Accum {
-    ghost use Rattle.std.specs.Prelude.{◌≡◌, ◌+◌, ◌^◌, ◌<◌, ◌≤◌, ◌↔◌, ℤ, List, [], ◌∷◌, ◌++◌, All, IfOk, OnOk, OnErr, IsErr, length};
+    ghost use Rattle.std.specs.Prelude.{◌≡◌, ◌+◌, ◌^◌, ◌<◌, ◌↔◌, ℤ, List, [], ◌∷◌, ◌++◌, length};
+    ghost use Rattle.std.specs.Prelude.{All, IfOk, IsErr, OnErr, OnOk};
     ghost use Rattle.cpl_base.specs.Numbers.{IsValue};
     ghost use Rattle.cpl_mediator.specs.Averages.{IsRunning, StandsFor, average_of, no_sums, sums_with};
 
@@ -59,7 +60,8 @@ impl Accum {
         ensures count { self.new.count ≡ self.old.count + 1 }
         ensures cells { length self.new.sums ≡ length self.old.sums }
         ensures sums { self.new.sums ≡ sums_with self.old.sums values.now }
-        ensures stands { (kept : List (List ℤ)) → StandsFor self.old kept → StandsFor self.new (kept ++ values.now ∷ []) }
+        ensures stands { (kept : List (List ℤ)) → StandsFor self.old kept
+            → StandsFor self.new (kept ++ values.now ∷ []) }
     {
         add_numbers(self.sums.as_mut_slice(), values, self.count);
         self.count += 1;
@@ -76,8 +78,10 @@ impl Accum {
         ensures cells { length self.new.sums ≡ length self.old.sums }
         ensures empty { IsErr result ↔ (self.old.count ≡ 0) }
         ensures unchanged { OnErr result ((self.new ≡ self.old) × (into.new ≡ into.old)) }
-        ensures value { OnOk result ((kept : List (List ℤ)) → StandsFor self.old kept → into.new ≡ average_of (length self.old.sums) kept) }
-        ensures within { OnOk result ((kept : List (List ℤ)) → StandsFor self.old kept → All (All IsValue) kept → All IsValue into.new) }
+        ensures value { OnOk result ((kept : List (List ℤ)) → StandsFor self.old kept
+            → into.new ≡ average_of (length self.old.sums) kept) }
+        ensures within { OnOk result ((kept : List (List ℤ)) → StandsFor self.old kept
+            → All (All IsValue) kept → All IsValue into.new) }
         ensures fresh { OnOk result (self.new ≡ no_sums (length self.old.sums)) }
         ensures stands { OnOk result (StandsFor self.new []) }
     {

@@ -1,16 +1,15 @@
 -- Columns in which no byte calls for quotes, and the line that a CSV writer makes of them.
-use Rattle.std.proofs.Common.{◌≡◌, ℕ, ℤ, pos, negsuc, ◌+◌, ◌%◌, ◌^◌, ◌<◌, ◌≤◌, Bool, true, false, ◌&&◌, ◌||◌, cond, List, [], ◌∷◌, ◌++◌, length, refl, sym, ap, ◌∙◌, arith, decimal, append-nil, append_assoc, get_or, take, Some, None, unsigned_abs}
+use Rattle.std.proofs.Common.{◌≡◌, ℕ, ℤ, ◌+◌, ◌%◌, ◌^◌, ◌<◌, ◌≤◌, Bool, true, false, ◌&&◌, ◌||◌, cond, List, [], ◌∷◌, ◌++◌, length, refl, sym, ap, ◌∙◌, arith, decimal, append-nil, append_assoc, get_or, take, Some, None, unsigned_abs}
 use Rattle.std.specs.Int.{is_negative}
 use Rattle.std.specs.Bool.{IsTrue}
 use Rattle.std.specs.List.{All, flat_map, join_with_byte, list_all, list_any}
-use Rattle.std.proofs.lemmas.Bool.{and_parts, false≢true, leb-true}
+use Rattle.std.proofs.lemmas.Bool.{and_parts, false≢true}
 use Rattle.std.proofs.lemmas.Bool.Decides.{nat_tests}
 use Rattle.std.proofs.lemmas.Fmt.{decimal_by_steps_wide}
 use Rattle.std.proofs.lemmas.Grind.{flat_map-append}
 use Rattle.std.proofs.lemmas.List.{take_more}
 use Rattle.std.proofs.lemmas.List.Elements.{All-cons, All-get_or, All-head, All-nil, All-tail}
 use Rattle.std.proofs.lemmas.List.Folds.{list_any-append}
-use Rattle.std.proofs.lemmas.Nat.{mod_below}
 use Rattle.cpl_base.specs.Numerals.{Numeral, Writes, are_digits, are_places, fraction, sign, value_text}
 use Rattle.cpl_base.specs.Words.{is_digit, is_letter, is_name, is_name_byte}
 use Rattle.cpl_trace.specs.Lines.{AreNames, IsPlaced, columns_of, integer_text, line_of, name_at, names_at}

@@ -1,5 +1,5 @@
 -- Two lists of rows, merged: their order, their keys, their sums, and what holds of each row.
-use Rattle.std.proofs.Common.{◌≡◌, ℕ, ℤ, pos, ◌+◌, ◌*◌, ◌^◌, ◌≤◌, ◌+ℤ◌, Bool, true, false, ◌||◌, cond, List, [], ◌∷◌, ◌++◌, unsigned_abs, refl, subst, sym, ap, ◌∙◌, arith, append-nil, length, get_or, take, drop, inl, inr, ◌⊎◌, ◌<◌}
+use Rattle.std.proofs.Common.{◌≡◌, ℕ, ℤ, pos, ◌+◌, ◌≤◌, ◌+ℤ◌, Bool, true, false, ◌||◌, cond, List, [], ◌∷◌, ◌++◌, refl, subst, sym, ap, ◌∙◌, arith, append-nil, length, get_or, take, drop, inl, inr, ◌⊎◌, ◌<◌}
 use Rattle.std.specs.List.{All}
 use Rattle.std.proofs.lemmas.Int.{ints}
 use Rattle.std.proofs.lemmas.List.{drop_all, take-append-drop}

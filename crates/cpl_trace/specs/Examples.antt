@@ -1,5 +1,5 @@
 -- The definitions of traces, evaluated on examples.
-use Rattle.std.specs.Prelude.{◌≡◌, ℕ, ℤ, pos, neg_ℤ, true, false, codes, List, [], ◌∷◌, ◌++◌}
+use Rattle.std.specs.Prelude.{◌≡◌, ℕ, ℤ, pos, neg_ℤ, true, false, codes, [], ◌∷◌}
 use Rattle.cpl_trace.specs.Lines.{trace_text}
 use Rattle.cpl_trace.specs.Rows.{has_row, is_before, sum_at}
 use Rattle.cpl_trace.specs.Steps.{merge_rows}

@@ -1,5 +1,5 @@
 -- The text of a trace, line by line.
-use Rattle.std.specs.Prelude.{◌≡◌, ℕ, ℤ, ◌<◌, List, [], ◌∷◌, ◌++◌, length, codes, decimal, unsigned_abs, slice_index_or, All, IsTrue}
+use Rattle.std.specs.Prelude.{ℕ, ℤ, ◌<◌, List, [], ◌∷◌, ◌++◌, length, codes, decimal, unsigned_abs, slice_index_or, All, IsTrue}
 use Rattle.std.specs.Int.{is_negative}
 use Rattle.std.specs.List.{flat_map, join_with_byte}
 use Rattle.cpl_base.specs.Numerals.{sign, value_text}

@@ -1,5 +1,5 @@
 -- What the code keeps of its CSV writer, which writes bytes to memory.
-use Rattle.std.specs.Prelude.{◌≡◌, ℕ, Bool, true, false, ◌&&◌, ◌<◌, List, ◌++◌, length, All, Vec}
+use Rattle.std.specs.Prelude.{◌≡◌, ℕ, false, ◌<◌, List, ◌++◌, length, All, Vec}
 use Rattle.std.specs.declared.alloc.Global.{Global}
 use Rattle.std.specs.List.{list_any}
 use Rattle.csv.specs.Writing.{default_writer, fields_written, has_written, needs_byte, writer_pending, writer_setup, writer_under}

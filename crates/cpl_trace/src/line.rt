@@ -64,7 +64,8 @@ pub(crate) fn write_columns(writer: &mut Writer<Vec<u8>>, columns: &[&[u8]]) -> 
     requires ready { IsReady writer.old }
     requires plain { ArePlain (map (λ column. column.now) columns.now) }
     ensures ready { OnOk result (IsReady writer.new) }
-    ensures text { OnOk result (text_of writer.new ≡ text_of writer.old ++ line_of (map (λ column. column.now) columns.now)) }
+    ensures text { OnOk result (text_of writer.new
+        ≡ text_of writer.old ++ line_of (map (λ column. column.now) columns.now)) }
 {
     let Ok(()) = writer.write_fields(columns) else {
         return Err(Memory);

@@ -23,7 +23,8 @@ pub fn merge_logs(alloc: Global, logs: &[PetLog]) -> Result<Vec<TraceRow>, Memor
     requires logs { AreLogs logs.now }
     ensures merged { IfOk result (λ rows. IsMerged (rows_of logs.now) rows.items) }
     // No other list of rows is.
-    ensures unique { IfOk result (λ rows. (others : List TraceRow) → IsMerged (rows_of logs.now) others → others ≡ rows.items) }
+    ensures unique { IfOk result (λ rows. (others : List TraceRow) → IsMerged (rows_of logs.now) others
+        → others ≡ rows.items) }
 {
     let rows = merge_all(alloc, logs)?;
     Ok(rows)
@@ -35,7 +36,8 @@ fn merge_all(alloc: Global, logs: &[PetLog]) -> Result<Vec<TraceRow>, Memory>
     requires ascending { All (λ log. IsAscending log.rows) logs.now }
     requires small { All (λ log. All IsSmall log.rows) logs.now }
     ensures summed { IfOk result (λ rows. IsSummed (rows_of logs.now) rows.items) }
-    ensures columns { IfOk result (λ rows. (given : List TraceRow) → All (AgreesWith given) (rows_of logs.now) → All (AgreesWith given) rows.items) }
+    ensures columns { IfOk result (λ rows. (given : List TraceRow) → All (AgreesWith given) (rows_of logs.now)
+        → All (AgreesWith given) rows.items) }
     ensures within { IfOk result (λ rows. All (IsWithin (length logs.now)) rows.items) }
 {
     if logs.len() <= 1 {

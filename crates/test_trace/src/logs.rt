@@ -120,9 +120,7 @@ fn is_ascending(rows: &[TraceRow]) -> bool
 {
     match rows {
         [] => true,
-        [row, rest @ ..] => {
-            rest.iter().all(|later| is_before(row, later)) && is_ascending(rest)
-        }
+        [row, rest @ ..] => { rest.iter().all(|later| is_before(row, later)) && is_ascending(rest) }
     }
 }
 
@@ -157,7 +155,11 @@ fn cases(rt: HostRuntime) -> Result<(), Fail> {
         let rows = merged(alloc, logs.as_slice())?.ok_or("not logs")?;
         assert_eq!(rt; rows.len(), wanted.len(), "case {place}");
         for k in 0..wanted.len() {
-            assert_eq!(rt; rows.get(k).copied(), wanted.get(k).copied().map(row_of), "case {place}");
+            assert_eq!(rt;
+                rows.get(k).copied(),
+                wanted.get(k).copied().map(row_of),
+                "case {place}"
+            );
         }
     }
     Ok(())

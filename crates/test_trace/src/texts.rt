@@ -104,11 +104,7 @@ fn is_placed(names: &TraceNames, row: &TraceRow) -> bool
 }
 
 /// The text of rows; nothing where they have no text.
-fn text_of(
-    alloc: Global,
-    rows: &[TraceRow],
-    names: &TraceNames,
-) -> Result<Option<Vec<u8>>, Fail> {
+fn text_of(alloc: Global, rows: &[TraceRow], names: &TraceNames) -> Result<Option<Vec<u8>>, Fail> {
     let placed = rows.iter().all(|row| is_placed(names, row));
     if placed
         && are_names(&names.components)

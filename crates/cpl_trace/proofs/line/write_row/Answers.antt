@@ -1,4 +1,4 @@
-use Rattle.std.proofs.Common.{◌≡◌, ◌++◌, ap, sym, ◌∙◌}
+use Rattle.std.proofs.Common.{◌++◌, ap, ◌∙◌}
 use Rattle.cpl_trace.specs.Lines.{line_of, name_at}
 use Rattle.cpl_trace.specs.Writers.{text_of}
 use Rattle.cpl_trace.proofs.LineFacts.{ArePlain-columns, HasColumns, columns_of-columns}

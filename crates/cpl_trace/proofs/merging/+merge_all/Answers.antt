@@ -1,7 +1,6 @@
-use Rattle.std.proofs.Common.{◌≡◌, ◌≤◌, ◌<◌, ◌+◌, ◌/◌, ℕ, length, get_or, sym, ap, ◌∙◌, arith, rules}
+use Rattle.std.proofs.Common.{◌≡◌, ◌<◌, ◌/◌, ℕ, length, get_or, sym, ◌∙◌, arith}
 use Rattle.std.proofs.lemmas.Bool.{ltb-true}
 use Rattle.std.proofs.lemmas.List.Elements.{All-same}
-use Rattle.cpl_trace.specs.Merging.{rows_of}
 use Rattle.cpl_trace.specs.Rows.{AgreesWith}
 use Rattle.cpl_trace.specs.Steps.{merge_rows}
 use Rattle.cpl_trace.proofs.MergingFacts.{AgreesWith-cut, IsCut, IsSummed-cut, IsWithin-cut, rows_of-cut, rows_of-one}

@@ -1,6 +1,3 @@
-use Rattle.std.proofs.Common.{◌≡◌, ◌++◌, length, ap, ◌∙◌, arith}
-use Rattle.std.specs.List.{flat_map}
-use Rattle.std.proofs.lemmas.List.{take_all}
 use Rattle.cpl_trace.specs.Lines.{columns_of, head_line, line_of}
 use Rattle.cpl_trace.proofs.LineFacts.{text-more}
 use Rattle.cpl_trace.proofs.text.trace_text.Goals as goal
