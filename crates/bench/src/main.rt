@@ -1,14 +1,8 @@
 //! How long the parts that matter take, each beside a plain path.
 //!
-<<<<<<< HEAD
 //! The first word of the command line is the measure (`values`, `prepared`, `formula`, `sequence`, `weights`, `rows`,
 //! `routes`, `mediator`), the second how many thousands of rounds it makes; without words each measure makes one
 //! thousand. Checksums go to standard output, times in nanoseconds to standard error.
-=======
-//! The first word of the command line is the measure (`values`, `prepared`, `formula`, `sequence`, `mediator`), the second
-//! how many thousands of rounds it makes; without words each measure makes one thousand. Checksums go to standard
-//! output, times in nanoseconds to standard error.
->>>>>>> 13958968fbe0ec6a93332d269f5dcdefec3662a5
 #![tactic(auto)]
 
 ghost use Rattle.std.specs.Prelude.{◌≡◌, All, length};

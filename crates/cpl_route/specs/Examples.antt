@@ -32,7 +32,8 @@ pub record RouteExamples : Type 0 where
   pub five_sent : cells_sent five ≡ 5
   pub five_there : cells_between five 0 1 ≡ 1 ∷ 2 ∷ []
   pub five_not_there : cells_between five 0 2 ≡ []
-  pub other_shape : redist_route (layout 6 1 false 2 1 0) (layout 3 2 false 3 1 0) ≡ leg 0 0 (1 ∷ []) ∷ leg 0 1 (2 ∷ []) ∷ leg 0 2 (3 ∷ []) ∷ leg 1 0 (4 ∷ []) ∷ leg 1 1 (5 ∷ []) ∷ leg 1 2 (6 ∷ []) ∷ []
+  pub other_shape : redist_route (layout 6 1 false 2 1 0) (layout 3 2 false 3 1 0)
+      ≡ leg 0 0 (1 ∷ []) ∷ leg 0 1 (2 ∷ []) ∷ leg 0 2 (3 ∷ []) ∷ leg 1 0 (4 ∷ []) ∷ leg 1 1 (5 ∷ []) ∷ leg 1 2 (6 ∷ []) ∷ []
   pub no_cells : redist_route (layout 1 1 false 2 1 0) (layout 1 1 false 2 1 4) ≡ leg 0 4 (1 ∷ []) ∷ []
   pub ring : ring_of_three ≡ leg 0 2 (1 ∷ []) ∷ leg 1 0 (2 ∷ []) ∷ leg 2 1 (3 ∷ []) ∷ []
   pub alone : halo_route (layout 3 1 true 1 1 0) ((pos 1, pos 0) ∷ []) ≡ []

@@ -120,7 +120,9 @@ fn add_leg<S: Sharing>(
     requires from { IsPet (S.src sharing.now) from }
     requires place { place < length (S.receivers sharing.now) }
     requires table { IsTable spans.old.items cells.old.items }
-    ensures { IfOk result (λ _. HasLegs spans.old.items cells.old.items (legs_from (S.src sharing.now) (S.is_needed sharing.now) (slice_index_or (S.receivers sharing.now) place 0 ∷ []) from) spans.new.items cells.new.items) }
+    ensures { IfOk result (λ _. HasLegs spans.old.items cells.old.items
+        (legs_from (S.src sharing.now) (S.is_needed sharing.now) (slice_index_or (S.receivers sharing.now) place 0 ∷ []) from)
+        spans.new.items cells.new.items) }
 {
     let start = cells.len();
     sharing.push(from, place, cells)?;
