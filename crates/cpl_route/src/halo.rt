@@ -1,7 +1,7 @@
 //! What PETs send each other for a halo.
 
-ghost use Rattle.std.specs.Prelude.{◌≡◌, ℕ, ◌+◌, ◌-◌, ◌≤◌, ◌<◌, length, slice_index_or};
-ghost use Rattle.cpl_grid.specs.Owners.{IsPet, pets_in};
+ghost use Rattle.std.specs.Prelude.{◌≡◌, ◌+◌, ◌-◌, ◌<◌};
+ghost use Rattle.cpl_grid.specs.Owners.{IsPet};
 ghost use Rattle.cpl_route.specs.Halos.{HasPairs, IsPairOf};
 ghost use Rattle.cpl_route.specs.Routes.{AreOffsets, is_halo, pets_of};
 

@@ -7,7 +7,7 @@ ghost use Rattle.cpl_route.specs.Places.{AreAlike, IsStretch, is_held};
 use cpl_grid::Block;
 
 /// Columns of a row that are all needed, or all not.
-#[derive(Clone, Copy, Debug, PartialEq, Eq)]
+#[derive(Clone, Copy)]
 pub(crate) struct Stretch {
     /// Whether they are needed.
     pub needed: bool,

@@ -1,8 +1,8 @@
 //! What a PET owns of a grid, found from a grid of as many cells.
 
-ghost use Rattle.std.specs.Prelude.{◌≡◌, ℕ, ◌+◌, ◌-◌, ◌*◌, ◌≤◌, ◌<◌};
+ghost use Rattle.std.specs.Prelude.{◌+◌, ◌-◌, ◌*◌, ◌≤◌, ◌<◌};
 ghost use Rattle.cpl_route.specs.Kept.{IsOwned};
-ghost use Rattle.cpl_route.specs.Places.{AreAlike, IsStretch};
+ghost use Rattle.cpl_route.specs.Places.{IsStretch};
 ghost use Rattle.cpl_route.specs.Routes.{is_owned};
 
 use crate::needs::{Needs, Stretch, block_stretch, holds};

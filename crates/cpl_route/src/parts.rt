@@ -1,6 +1,6 @@
 //! The parts of all PETs of a decomposed grid, taken once.
 
-ghost use Rattle.std.specs.Prelude.{◌≡◌, ℕ, ◌+◌, ◌-◌, ◌≤◌, ◌<◌, length, slice_index_or};
+ghost use Rattle.std.specs.Prelude.{◌≡◌, ◌+◌, ◌-◌, ◌<◌, length, slice_index_or};
 ghost use Rattle.cpl_grid.specs.Owners.{IsDivision, IsLayout, IsPartOf, IsPet, part_of};
 ghost use Rattle.cpl_route.specs.Kept.{HasParts};
 ghost use Rattle.cpl_route.specs.Routes.{pets_of};
@@ -17,7 +17,7 @@ const EMPTY: Block = Block {
 };
 
 /// The part of each PET of a decomposed grid, so that no pair of PETs costs a division.
-#[derive(Debug, Drop)]
+#[derive(Drop)]
 pub(crate) struct Parts {
     /// The part of the k-th PET, from 0.
     pub list: [Part; 64],

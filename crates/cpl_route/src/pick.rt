@@ -1,12 +1,8 @@
 //! What PETs send each other where each needs the cells of a list.
 
-ghost use Rattle.std.specs.Prelude.{◌≡◌, ℕ, ◌+◌, ◌*◌, ◌≤◌, ◌<◌, ◌==◌, Bool, true, List, length, slice_index_or, nat_lt, ◌-◌, ◌^◌, if◌then◌else◌};
-ghost use Rattle.std.specs.List.{list_any};
-ghost use Rattle.cpl_grid.specs.Grid.{IsGrid};
-ghost use Rattle.cpl_route.specs.Kept.{HasParts};
+ghost use Rattle.std.specs.Prelude.{◌≡◌, ℕ, ◌+◌, ◌*◌, ◌≤◌, ◌<◌, ◌==◌, true, length, slice_index_or, nat_lt, ◌-◌, ◌^◌, if◌then◌else◌};
 ghost use Rattle.cpl_route.specs.declared.need.Need.{Need};
 ghost use Rattle.cpl_route.specs.Picks.{IsListed, IsPick, is_listed};
-ghost use Rattle.cpl_route.specs.Places.{AreAlike, IsStretch, cell_in};
 ghost use Rattle.cpl_route.specs.Routes.{are_ascending, is_ascending, is_picked, pickers_of};
 
 use crate::need::Need;

@@ -1,8 +1,7 @@
 //! What PETs send each other in a redistribution.
 
-ghost use Rattle.std.specs.Prelude.{◌≡◌, ℕ, ◌+◌, ◌≤◌, ◌<◌, length, slice_index_or};
+ghost use Rattle.std.specs.Prelude.{◌≡◌, ◌<◌, length, slice_index_or};
 ghost use Rattle.cpl_grid.specs.Grid.{cells_in};
-ghost use Rattle.cpl_grid.specs.Owners.{IsPet};
 ghost use Rattle.cpl_route.specs.Kept.{IsOwned, IsRedist};
 ghost use Rattle.cpl_route.specs.Routes.{is_owned, pets_of};
 

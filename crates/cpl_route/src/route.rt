@@ -1,6 +1,6 @@
 //! Routes: which cells each PET sends to each other.
 
-ghost use Rattle.std.specs.Prelude.{◌≡◌, ℕ, ◌+◌, ◌≤◌, ◌<◌, IsTrue, true, List, nat_lt, ◌==◌, ◌&&◌, length, map, slice_range, IfOk};
+ghost use Rattle.std.specs.Prelude.{◌≡◌, ℕ, ◌+◌, ◌≤◌, ◌<◌, IsTrue, true, List, nat_lt, ◌==◌, ◌&&◌, map, slice_range, IfOk};
 ghost use Rattle.std.specs.List.{All};
 ghost use Rattle.cpl_base.specs.Gives.{Gives};
 ghost use Rattle.cpl_grid.specs.Grid.{cells_in};

@@ -1,6 +1,6 @@
 //! Lists of needs, brought into the order of their PETs and each into ascending order.
 
-ghost use Rattle.std.specs.Prelude.{◌≡◌, ◌≢◌, ℕ, ◌+◌, ◌≤◌, ◌<◌, Bool, true, length, slice_index_or, IfOk, MatchOption};
+ghost use Rattle.std.specs.Prelude.{◌≡◌, ◌≢◌, ℕ, ◌+◌, ◌<◌, true, length, slice_index_or, IfOk, MatchOption};
 ghost use Rattle.cpl_route.specs.Picks.{AreCopies, ArePickedAlike, IsAtPlace, is_listed};
 ghost use Rattle.cpl_route.specs.Routes.{ArePetsDistinct, are_ascending, is_ascending};
 ghost use Rattle.cpl_route.specs.declared.need.Need.{Need};

@@ -1,15 +1,15 @@
 //! A table of what each PET sends to each other: all cells in one list, and for each pair with cells where they stand in it.
 
-ghost use Rattle.std.specs.Prelude.{◌≡◌, ℕ, ◌+◌, ◌≤◌, ◌<◌, ◌^◌, ◌++◌, ◌∷◌, [], Bool, List, length, slice_index_or, filter, map, IfOk, if◌then◌else◌, nat_lt, sum_by};
+ghost use Rattle.std.specs.Prelude.{◌≡◌, ℕ, ◌+◌, ◌≤◌, ◌<◌, ◌^◌, ◌++◌, ◌∷◌, [], Bool, List, length, slice_index_or, IfOk, if◌then◌else◌, nat_lt};
 ghost use Rattle.cpl_grid.specs.Owners.{IsPet, Layout, pets_in};
 ghost use Rattle.cpl_route.specs.Routes.{cells_sent, legs_from, route_of, shared_cells};
-ghost use Rattle.cpl_route.specs.Tables.{HasLegs, IsTable, legs_at};
+ghost use Rattle.cpl_route.specs.Tables.{HasLegs, IsTable};
 
 use cpl_base::Memory;
 use std::alloc::Global;
 
 /// Where the cells of a pair stand in the list of all cells.
-#[derive(Clone, Copy, Debug, PartialEq, Eq)]
+#[derive(Clone, Copy, Debug)]
 pub(crate) struct Span {
     /// The PET that sends them.
     pub from: u8,
@@ -70,7 +70,7 @@ pub(crate) trait Sharing {
 }
 
 /// The table: the spans of the pairs with cells, by sender and then by receiver, and the cells.
-#[derive(Debug, Drop)]
+#[derive(Drop)]
 pub(crate) struct Table {
     pub spans: Vec<Span>,
     pub cells: Vec<u32>,

@@ -1,7 +1,7 @@
 //! The needed cells of a part of a grid, walked by rows. No step is taken for a cell that isn't needed, and none
 //! divides.
 
-ghost use Rattle.std.specs.Prelude.{◌≡◌, ℕ, ◌+◌, ◌-◌, ◌*◌, ◌≤◌, ◌<◌, ◌^◌, ◌++◌, Bool, List, [], length, drop, take, filter, IfOk, if◌then◌else◌};
+ghost use Rattle.std.specs.Prelude.{◌≡◌, ◌+◌, ◌-◌, ◌*◌, ◌≤◌, ◌<◌, ◌^◌, ◌++◌, [], length, drop, take, filter, IfOk, if◌then◌else◌};
 ghost use Rattle.std.specs.List.{All, range_with_len};
 ghost use Rattle.cpl_grid.specs.Grid.{IsGrid};
 ghost use Rattle.cpl_grid.specs.Parts.{IsPart, cells_of_part};

@@ -1,7 +1,7 @@
 //! Routes read plainly off their definition: every sender, every receiver, every cell.
 
-ghost use Rattle.std.specs.Prelude.{◌≡◌, ◌+◌, ◌<◌, ◌≤◌};
-ghost use Rattle.cpl_grid.specs.Grid.{IsGrid, cells_in};
+ghost use Rattle.std.specs.Prelude.{◌≡◌};
+ghost use Rattle.cpl_grid.specs.Grid.{cells_in};
 ghost use Rattle.cpl_route.specs.Routes.{AreOffsets};
 
 use cpl_base::Memory;

@@ -1,7 +1,7 @@
 //! Routes worked out by hand, and routes over random decompositions beside a plain reading of their definition.
 
 ghost use Rattle.std.specs.Prelude.{◌≡◌, ◌≢◌, ◌+◌, ◌*◌, ◌<◌, ◌≤◌, IfOk};
-ghost use Rattle.cpl_grid.specs.Grid.{IsGrid, cells_in};
+ghost use Rattle.cpl_grid.specs.Grid.{cells_in};
 ghost use Rattle.cpl_route.specs.Routes.{ArePetsDistinct, AreOffsets};
 
 use crate::plain::{Sent, over_all_pairs, plain_halo, plain_pick, plain_redist, told};
