@@ -9,8 +9,14 @@ pub mod NameTable
 pub mod Parts
 pub mod Pets
 pub mod PhaseRows
+pub mod Readings
 pub mod Realised
 pub mod RowForms
 pub mod Rules
+pub mod RunFaults
 pub mod Scopes
+pub mod Timing
+pub mod Turns
 pub mod Views
+pub mod Worlds
+pub mod Writes

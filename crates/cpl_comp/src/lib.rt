@@ -9,6 +9,7 @@ mod fault;
 mod field_rows;
 mod field_table;
 mod field_words;
+mod found;
 mod grids;
 mod halos;
 mod labels;
@@ -31,5 +32,6 @@ pub use component::{
 pub use cpl_formula::Argument;
 pub use examples::component_examples;
 pub use fault::CompFault;
+pub use found::FoundKind;
 pub use realised::Realised;
 pub use realising::realise;

@@ -1,0 +1,9 @@
+pub mod Couplings
+pub mod Halos
+pub mod Matched
+pub mod Operations
+pub mod Parts
+pub mod SerialRun
+pub mod Sound
+pub mod Systems
+pub mod Transfers

@@ -1,0 +1,13 @@
+//! An accepted configuration, and what a run of it is.
+#![tactic(auto)]
+
+mod fault;
+mod link;
+mod outcome;
+mod parts;
+
+pub use cpl_comp::FoundKind;
+pub use fault::SystemFault;
+pub use link::Link;
+pub use outcome::{CompEnd, FieldEnd, Found, Outcome};
+pub use parts::SystemParts;
