@@ -1,5 +1,7 @@
 //! Why a configuration is too large.
 
+ghost use Rattle.std.specs.Prelude.{◌≡◌};
+
 use cpl_base::Memory;
 use thiserror::Error;
 
