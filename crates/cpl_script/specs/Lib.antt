@@ -1,4 +1,5 @@
 pub mod Couplings
+pub mod Examples
 pub mod Halos
 pub mod Matched
 pub mod Operations
