@@ -1,8 +1,11 @@
 pub mod Couplings
+pub mod DayExamples
 pub mod Examples
 pub mod Halos
 pub mod Matched
+pub mod MediatorExamples
 pub mod Operations
+pub mod PartExamples
 pub mod Parts
 pub mod SerialRun
 pub mod Sound

@@ -8,7 +8,7 @@ mod outcome;
 mod parts;
 
 pub use cpl_comp::FoundKind;
-pub use examples::run_examples;
+pub use examples::{part_examples, run_examples};
 pub use fault::SystemFault;
 pub use link::Link;
 pub use outcome::{CompEnd, FieldEnd, Found, Outcome};
