@@ -5,10 +5,12 @@ pub mod FieldRows
 pub mod Grids
 pub mod Halos
 pub mod Labels
+pub mod Marks
 pub mod NameTable
 pub mod Parts
 pub mod Pets
 pub mod PhaseRows
+pub mod ReadingExamples
 pub mod Readings
 pub mod Realised
 pub mod RowForms
