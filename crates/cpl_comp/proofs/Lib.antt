@@ -1,9 +1,13 @@
 mod AdvertisedFacts
 mod ArgumentFacts
+pub mod CellFacts
+pub mod ChangeFacts
 mod FieldRowFacts
 mod GridFacts
 mod HaloFacts
+pub mod HeldFacts
 mod ListFacts
+pub mod MarkFacts
 mod NameTableFacts
 mod PhaseFacts
 mod PhaseRowFacts

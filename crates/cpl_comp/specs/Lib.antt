@@ -4,6 +4,7 @@ pub mod Examples
 pub mod FieldRows
 pub mod Grids
 pub mod Halos
+pub mod Held
 pub mod Labels
 pub mod Marks
 pub mod NameTable
