@@ -46,20 +46,20 @@ use Rattle.cpl_comp.proofs.ChangeFacts.{All-changed, fold-keeps, fold-keeps_all,
 
 -- ---- values
 
-clip-within : (z : ℤ) → IsValue (clip z)
+pub clip-within : (z : ℤ) → IsValue (clip z)
 clip-within z = omega (arith, ints, int_max_is (neg_ℤ (pos greatest)) (int_min z (pos greatest)), int_min_is z (pos greatest))
 
 whole-within : (n : ℤ) → IsValue (whole n)
 whole-within n = clip-within (n *ℤ pos million)
 
-none-within : All IsValue []
+pub none-within : All IsValue []
 none-within k d inside = absurd (omega arith)
 
 zero-within : IsValue (pos 0)
 zero-within = omega arith
 
 -- a value of a list, or 0 past its end
-get_or-within : (values : List ℤ) → All IsValue values → (i : ℕ) → IsValue (get_or values i (pos 0))
+pub get_or-within : (values : List ℤ) → All IsValue values → (i : ℕ) → IsValue (get_or values i (pos 0))
 get_or-within values each i = elim (cases_lt i (length values)) [
     | inl inside ↦ each i (pos 0) inside
     | inr past ↦ subst IsValue (sym (get_or_past values i (pos 0) past)) zero-within ]
@@ -69,6 +69,12 @@ pub field_value-within : (cells : ℕ) (fields : List FieldWorld) → All (IsHel
 field_value-within cells fields each k s = elim (cases_lt k (length fields)) [
     | inl inside ↦ get_or-within (field_at fields k).values (each k no_field inside).values (s - 1)
     | inr past ↦ get_or-within (field_at fields k).values (subst (λ (field : FieldWorld). All IsValue field.values) (sym (get_or_past fields k no_field past)) none-within) (s - 1) ]
+
+-- the values of a field, none where there is no such field
+pub held-values : (cells : ℕ) (fields : List FieldWorld) → All (IsHeld cells) fields → (k : ℕ) → All IsValue (field_at fields k).values
+held-values cells fields each k = elim (cases_lt k (length fields)) [
+    | inl inside ↦ (each k no_field inside).values
+    | inr past ↦ subst (λ (field : FieldWorld). All IsValue field.values) (sym (get_or_past fields k no_field past)) none-within ]
 
 -- ---- rules
 
@@ -152,11 +158,6 @@ module _ (layout : Layout) (fields : List FieldWorld) (held : All (IsHeld (cells
   count-at : (k : ℕ) → k < length fields → length (field_at fields k).values ≡ cells_in layout.grid
   count-at k inside = (held k no_field inside).count
 
-  values-at : (k : ℕ) → All IsValue (field_at fields k).values
-  values-at k = elim (cases_lt k (length fields)) [
-      | inl inside ↦ (held k no_field inside).values
-      | inr past ↦ subst (λ (field : FieldWorld). All IsValue field.values) (sym (get_or_past fields k no_field past)) none-within ]
-
   kept-at : (k : ℕ) → All (All IsValue) (field_at fields k).kept
   kept-at k = elim (cases_lt k (length fields)) [
       | inl inside ↦ (held k no_field inside).kept_values
@@ -171,7 +172,7 @@ module _ (layout : Layout) (fields : List FieldWorld) (held : All (IsHeld (cells
   }
 
   average-fitting : (k : ℕ) → IsFitting (length fields) (cells_in layout.grid) (average_write layout fields k)
-  average-fitting k = mean-fitting k (field_at fields k).values (field_at fields k).kept (count-at k) (values-at k) (kept-at k)
+  average-fitting k = mean-fitting k (field_at fields k).values (field_at fields k).kept (count-at k) (held-values (cells_in layout.grid) fields held k) (kept-at k)
 
 -- a merge gives values
 merge_value-within : (reading : Reading) (row : MergeRow) (s : ℕ) → IsValue (merge_value reading row s)
@@ -255,7 +256,7 @@ All-cons P x xs first each = λ i d inside. elim i as (λ i. i < length (x ∷ x
     | suc i ↦ λ inside. each i d (omega arith) ] inside
 
 -- what holds of one that is the same
-from-some : {A : Type 0} (P : A → Type 0) (x y : A) → Some x ≡ Some y → P x → P y
+pub from-some : {A : Type 0} (P : A → Type 0) (x y : A) → Some x ≡ Some y → P x → P y
 from-some P x y same holds = subst (λ o. MatchOption o ⊤ P) same holds
 
 -- a member more, if there is one

@@ -20,4 +20,5 @@ mod RuleFacts
 mod ShortFacts
 mod ShortRowFacts
 mod StartFacts
+pub mod SummedFacts
 mod TermFacts

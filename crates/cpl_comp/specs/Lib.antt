@@ -18,6 +18,7 @@ pub mod RowForms
 pub mod Rules
 pub mod RunFaults
 pub mod Scopes
+pub mod Summed
 pub mod Timing
 pub mod Turns
 pub mod Views

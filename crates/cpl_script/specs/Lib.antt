@@ -2,6 +2,7 @@ pub mod Couplings
 pub mod DayExamples
 pub mod Examples
 pub mod Halos
+pub mod Held
 pub mod Matched
 pub mod MediatorExamples
 pub mod Operations
