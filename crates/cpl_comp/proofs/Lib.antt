@@ -19,6 +19,7 @@ mod RowFormFacts
 mod RuleFacts
 mod ShortFacts
 mod ShortRowFacts
+pub mod StampFacts
 mod StartFacts
 pub mod SummedFacts
 mod TermFacts
