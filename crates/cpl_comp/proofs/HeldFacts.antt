@@ -267,18 +267,18 @@ All-cons_option P (Some x) xs first each = All-cons P x xs (first x refl) each
 -- ---- a phase
 
 -- what holds of the first of two lists, and of the second
-All-left : {A : Type 0} (P : A → Type 0) (xs ys : List A) → All P (xs ++ ys) → All P xs
+pub All-left : {A : Type 0} (P : A → Type 0) (xs ys : List A) → All P (xs ++ ys) → All P xs
 All-left P [] ys each = λ i d inside. absurd (omega arith)
 All-left P (x ∷ xs) ys each = λ i d inside. elim i as (λ i. i < length (x ∷ xs) → P (get_or (x ∷ xs) i d)) [
     | zero ↦ λ inside. All-head P x (xs ++ ys) each
     | suc i ↦ λ inside. All-left P xs ys (All-tail P x (xs ++ ys) each) i d (omega arith) ] inside
 
-All-right : {A : Type 0} (P : A → Type 0) (xs ys : List A) → All P (xs ++ ys) → All P ys
+pub All-right : {A : Type 0} (P : A → Type 0) (xs ys : List A) → All P (xs ++ ys) → All P ys
 All-right P [] ys each = each
 All-right P (x ∷ xs) ys each = All-right P xs ys (All-tail P x (xs ++ ys) each)
 
 -- what holds of what a function makes of each
-All-unmap : {A B : Type 0} (P : B → Type 0) (f : A → B) (xs : List A) → All P (map f xs) → All (λ x. P (f x)) xs
+pub All-unmap : {A B : Type 0} (P : B → Type 0) (f : A → B) (xs : List A) → All P (map f xs) → All (λ x. P (f x)) xs
 All-unmap P f [] each = λ i d inside. absurd (omega arith)
 All-unmap P f (x ∷ xs) each = λ i d inside. elim i as (λ i. i < length (x ∷ xs) → P (f (get_or (x ∷ xs) i d))) [
     | zero ↦ λ inside. All-head P (f x) (map f xs) each

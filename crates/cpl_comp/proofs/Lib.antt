@@ -23,3 +23,4 @@ pub mod StampFacts
 mod StartFacts
 pub mod SummedFacts
 mod TermFacts
+pub mod UnwrittenFacts

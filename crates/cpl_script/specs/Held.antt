@@ -1,12 +1,13 @@
 -- What holds of the world all through a run, and what of it doesn't depend on values.
-use Rattle.std.specs.Prelude.{◌≡◌, ℕ, ℤ, pos, Bool, List, [], fold, length, map, slice_get, slice_index_or, Option, Some, None}
+use Rattle.std.specs.Prelude.{◌≡◌, ℕ, ℤ, pos, Bool, true, List, [], fold, length, map, slice_get, slice_index_or, Option, Some, None}
 use Rattle.std.specs.Option.{option_map_or}
 use Rattle.cpl_comp.specs.Held.{AreHeld}
 use Rattle.cpl_comp.specs.Marks.{CompMarks, marks_after_init, marks_after_run, marks_of}
-use Rattle.cpl_comp.specs.Turns.{Turn}
+use Rattle.cpl_comp.specs.Turns.{Turn, has_role}
 use Rattle.cpl_comp.specs.Worlds.{changed}
 use Rattle.cpl_comp.specs.declared.component.Comp.{Comp}
 use Rattle.cpl_comp.specs.declared.component.Phase.{Phase}
+use Rattle.cpl_comp.specs.declared.component.Role.TheVariants.{Var}
 use Rattle.cpl_grid.specs.Grid.{cells_in}
 use Rattle.cpl_match.specs.declared.port.Pair.{Pair}
 use Rattle.cpl_sequence.specs.declared.op.Op.{Op}
@@ -29,6 +30,11 @@ no_marks = record { clock = pos 0; runs = 0; stamps = [] }
 -- the stamp of a field of a component
 abbrev pub stamp_in : List CompMarks → ℕ → ℕ → Option ℤ
 stamp_in marks component field = slice_index_or (slice_index_or marks component no_marks).stamps field None
+
+-- no variable has a stamp
+abbrev pub AreUnstamped : List Comp → List CompMarks → Type 0
+AreUnstamped comps marks =
+    (c : ℕ) (comp : Comp) (k : ℕ) → slice_get comps c ≡ Some comp → has_role Var comp.fields k ≡ true → stamp_in marks c k ≡ None
 
 -- the marks with the stamp of a pair's export put at its import, as it was before
 abbrev pub marks_carried : List CompMarks → List CompMarks → Pair → List CompMarks
