@@ -6,6 +6,7 @@ mod MarkFacts
 mod OperationSizes
 mod PlaceFacts
 mod RemainderFacts
+mod RunEndsFacts
 mod RunFacts
 pub mod SoundFacts
 mod StepFacts

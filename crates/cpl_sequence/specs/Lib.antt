@@ -5,6 +5,7 @@ pub mod Marks
 pub mod Operations
 pub mod Places
 pub mod Remainder
+pub mod RunEnds
 pub mod Sequence
 pub mod Sound
 pub mod Turns
