@@ -1,3 +1,4 @@
 pub mod PartFacts
 pub mod StayFacts
+pub mod TraceFacts
 pub mod WorldFacts

@@ -11,4 +11,5 @@ pub mod Parts
 pub mod SerialRun
 pub mod Sound
 pub mod Systems
+pub mod TraceLengths
 pub mod Transfers
