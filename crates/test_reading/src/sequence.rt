@@ -7,7 +7,7 @@ ghost use Rattle.cpl_runseq.specs.Remainder.{IsCursorOf};
 use cpl_base::{Many, Memory, Text};
 use cpl_config::{Items, read_items};
 use cpl_runseq::{Cursor, Method, Op, Seq, SeqFault, SeqName, read_sequence, reading_examples};
-use cpl_sequence::sequence_examples;
+use cpl_sequence::{run_total, sequence_examples};
 use cpl_text::lines;
 use std::alloc::Global;
 use std::process::Abort;
@@ -438,5 +438,33 @@ fn a_hundred_thousand_operations(rt: HostRuntime) {
             expect_count(&rt, rt.alloc(), sequence, 100_000);
         }
         Err(_) => panic!(rt; "refused"),
+    }
+}
+
+/// Panics unless the runs of the sequence of a text count so much as they end.
+fn expect_runs(rt: &impl Abort, alloc: Global, text: &[u8], counts: &[u64], wanted: u64) {
+    match &sequence(alloc, text, None, None) {
+        Ok(sequence) => assert_eq!(rt; run_total(sequence, counts), wanted),
+        Err(_) => panic!(rt; "refused"),
+    }
+}
+
+#[test]
+fn runs_that_end(rt: HostRuntime) {
+    let nested = b"runSeq::\n@4:8\n@1:3\nC\n@\nA\n@\n@2:2\nC\n@\n::\n";
+    let parts = b"runSeq::\n@4:8\nA->B\nB\nA second\n@\n::\n";
+    let long = b"runSeq::\n@1:1000000000000\nA\nC\nA second\n@\n::\n";
+    let cases: [(&[u8], &[u64], u64); 7] = [
+        (nested, &[1, 0, 0], 2),
+        (nested, &[10, 100, 1_000], 7_020),
+        // A run of two operations ends once.
+        (parts, &[10, 100, 1_000], 220),
+        (parts, &[], 0),
+        (long, &[1], 2_000_000_000_000),
+        (long, &[1, 5, 1], 3_000_000_000_000),
+        (long, &[18_446_744_073_709_551_615], 18_446_744_073_709_551_615),
+    ];
+    for (text, counts, wanted) in cases {
+        expect_runs(&rt, rt.alloc(), text, counts, wanted);
     }
 }
