@@ -48,7 +48,7 @@ module _ (layout : Layout) where
   unfolding over_cells
   over_cells-at value s cell =
       get_or-map-range_with_len value 1 (cells_in layout.grid) (s - 1) s (pos 0)
-          (in_run s (cells_in layout.grid) cell.from_one cell.within) (next_before s cell.from_one)
+      (in_run s (cells_in layout.grid) cell.from_one cell.within) (next_before s cell.from_one)
 
   -- what is the same at each cell is the same list
   pub over_cells-same : (f g : ℕ → ℤ) → ((s : ℕ) → IsCell layout.grid s → f s ≡ g s) → over_cells layout f ≡ over_cells layout g
@@ -78,4 +78,4 @@ module _ (layout : Layout) where
   cells-of_over_cells value [] each = refl
   cells-of_over_cells value (s ∷ cells) each =
       λ i. over_cells-at value s (All-head (IsCell layout.grid) s cells each) i
-          ∷ cells-of_over_cells value cells (All-tail (IsCell layout.grid) s cells each) i
+      ∷ cells-of_over_cells value cells (All-tail (IsCell layout.grid) s cells each) i

@@ -1,8 +1,8 @@
 -- Lists changed at one place, and changes one after another.
-use Rattle.std.proofs.Common.{◌≡◌, ◌≢◌, ℕ, zero, suc, ◌<◌, ◌≤◌, List, [], ◌∷◌, length, get_or, refl, sym, ap, subst, ◌∙◌, arith}
+use Rattle.std.proofs.Common.{◌≡◌, ◌≢◌, ℕ, zero, suc, ◌<◌, ◌≤◌, List, [], ◌∷◌, length, get_or, refl, ap, ◌∙◌, arith}
 use Rattle.std.specs.Prelude.{map, fold}
 use Rattle.std.specs.List.{All}
-use Rattle.std.proofs.lemmas.List.Elements.{All-from_get_or, All-head, All-tail}
+use Rattle.std.proofs.lemmas.List.Elements.{All-head, All-tail}
 use Rattle.cpl_comp.specs.Worlds.{changed}
 
 -- ---- one change
@@ -49,11 +49,13 @@ map-changed_same see change seen (suc k) (x ∷ xs) = ap (λ ys. see x ∷ ys) (
 pub All-changed : {A : Type 0} (P : A → Type 0) (change : A → A) (k : ℕ) (xs : List A) → (k < length xs → (d : A) → P (get_or xs k d) → P (change (get_or xs k d))) → All P xs → All P (changed change k xs)
 All-changed P change k [] keeps each = each
 All-changed P change zero (x ∷ xs) keeps each = λ i d inside. elim i as (λ i. i < length (change x ∷ xs) → P (get_or (change x ∷ xs) i d)) [
-    | zero ↦ λ inside. keeps (omega arith) x (each 0 x (omega arith))
-    | suc i ↦ λ inside. each (suc i) d inside ] inside
+  | zero ↦ λ inside. keeps (omega arith) x (each 0 x (omega arith))
+  | suc i ↦ λ inside. each (suc i) d inside
+] inside
 All-changed P change (suc k) (x ∷ xs) keeps each = λ i d inside. elim i as (λ i. i < length (x ∷ changed change k xs) → P (get_or (x ∷ changed change k xs) i d)) [
-    | zero ↦ λ inside. each 0 d (omega arith)
-    | suc i ↦ λ inside. All-changed P change k xs (λ below e. keeps (omega arith) e) (All-tail P x xs each) i d (omega arith) ] inside
+  | zero ↦ λ inside. each 0 d (omega arith)
+  | suc i ↦ λ inside. All-changed P change k xs (λ below e. keeps (omega arith) e) (All-tail P x xs each) i d (omega arith)
+] inside
 
 -- ---- changes one after another
 

@@ -1,7 +1,7 @@
 -- Rules give values, and runs keep that each field has a value for each cell.
-use Rattle.std.proofs.Common.{◌≡◌, ℕ, zero, suc, ◌+◌, ◌-◌, ◌*◌, ◌<◌, ◌≤◌, ℤ, pos, neg_ℤ, ◌+ℤ◌, unsigned_abs, Bool, true, false, List, [], ◌∷◌, ◌++◌, length, get_or, refl, sym, ap, subst, ◌∙◌, inl, inr, arith}
-use Rattle.std.specs.Prelude.{◌≤ℤ◌, ◌*ℤ◌, IsTrue, ⊤, MatchOption, Option, Some, None, option_map, map, fold, if◌then◌else◌, slice_index}
-use Rattle.std.specs.Int.{int_max, int_min}
+use Rattle.std.proofs.Common.{◌≡◌, ℕ, zero, suc, ◌+◌, ◌-◌, ◌*◌, ◌<◌, ◌≤◌, ℤ, pos, neg_ℤ, Bool, true, false, List, [], ◌∷◌, ◌++◌, length, get_or, refl, sym, subst, ◌∙◌, inl, inr, arith}
+use Rattle.std.specs.Prelude.{◌≤ℤ◌, ◌*ℤ◌, IsTrue, ⊤, MatchOption, Option, Some, None, option_map, map, fold, if◌then◌else◌}
+use Rattle.std.specs.Int.{int_min}
 use Rattle.std.specs.List.{All, cons_option, enumerate_from, filter_map}
 use Rattle.std.specs.Option.{ForSome}
 use Rattle.std.proofs.lemmas.Bool.{cases_lt}
@@ -24,12 +24,12 @@ use Rattle.cpl_grid.specs.Owners.{Layout}
 use Rattle.cpl_mediator.proofs.NearFacts.{near_of-high, near_of-low}
 use Rattle.cpl_mediator.specs.Averages.{average_at, number_at, sum_at}
 use Rattle.cpl_mediator.specs.Merges.{sum_of_products}
-use Rattle.cpl_comp.specs.Components.{IsComponent, IsField, IsPhase, IsRule, IsStart, Limits, roles_of, rules_of}
+use Rattle.cpl_comp.specs.Components.{IsComponent, IsField, IsPhase, IsRule, Limits, roles_of}
 use Rattle.cpl_comp.specs.Held.{AreAnswers, AreHeld, IsHeld}
 use Rattle.cpl_comp.specs.Readings.{EntryAnswers, Reading, argument_value, moment_parts, name_value, one_if, read_value, rule_value, rule_values, whole}
 use Rattle.cpl_comp.specs.Timing.{Timing, day_second, days_after, is_alarm_at}
 use Rattle.cpl_comp.specs.Turns.{Turn, all_stamped, comp_after_init, comp_after_run, fields_after_run, places_of, reading_of, stamped, stamped_exports, step_end, step_ended}
-use Rattle.cpl_comp.specs.Worlds.{CompWorld, FieldWorld, changed, field_at, field_value, first_field, no_field, over_cells}
+use Rattle.cpl_comp.specs.Worlds.{CompWorld, FieldWorld, field_at, field_value, first_field, no_field, over_cells}
 use Rattle.cpl_comp.specs.Writes.{Write, all_written, average_write, emptied, fields_after, fields_started, kept_more, mean_values, merge_value, merge_write, phase_writes, set_write, start_write, written}
 use Rattle.cpl_comp.specs.declared.component.Comp.{Comp}
 use Rattle.cpl_comp.specs.declared.component.Field.{Field}
@@ -61,20 +61,23 @@ zero-within = omega arith
 -- a value of a list, or 0 past its end
 pub get_or-within : (values : List ℤ) → All IsValue values → (i : ℕ) → IsValue (get_or values i (pos 0))
 get_or-within values each i = elim (cases_lt i (length values)) [
-    | inl inside ↦ each i (pos 0) inside
-    | inr past ↦ subst IsValue (sym (get_or_past values i (pos 0) past)) zero-within ]
+  | inl inside ↦ each i (pos 0) inside
+  | inr past ↦ subst IsValue (sym (get_or_past values i (pos 0) past)) zero-within
+]
 
 -- a value of a field, or 0 where there is no such field or cell
 pub field_value-within : (cells : ℕ) (fields : List FieldWorld) → All (IsHeld cells) fields → (k s : ℕ) → IsValue (field_value fields k s)
 field_value-within cells fields each k s = elim (cases_lt k (length fields)) [
-    | inl inside ↦ get_or-within (field_at fields k).values (each k no_field inside).values (s - 1)
-    | inr past ↦ get_or-within (field_at fields k).values (subst (λ (field : FieldWorld). All IsValue field.values) (sym (get_or_past fields k no_field past)) none-within) (s - 1) ]
+  | inl inside ↦ get_or-within (field_at fields k).values (each k no_field inside).values (s - 1)
+  | inr past ↦ get_or-within (field_at fields k).values (subst (λ (field : FieldWorld). All IsValue field.values) (sym (get_or_past fields k no_field past)) none-within) (s - 1)
+]
 
 -- the values of a field, none where there is no such field
 pub held-values : (cells : ℕ) (fields : List FieldWorld) → All (IsHeld cells) fields → (k : ℕ) → All IsValue (field_at fields k).values
 held-values cells fields each k = elim (cases_lt k (length fields)) [
-    | inl inside ↦ (each k no_field inside).values
-    | inr past ↦ subst (λ (field : FieldWorld). All IsValue field.values) (sym (get_or_past fields k no_field past)) none-within ]
+  | inl inside ↦ (each k no_field inside).values
+  | inr past ↦ subst (λ (field : FieldWorld). All IsValue field.values) (sym (get_or_past fields k no_field past)) none-within
+]
 
 -- ---- rules
 
@@ -116,7 +119,7 @@ module _ (reading : Reading) (values : (k s : ℕ) → IsValue (reading.value k 
       let call = is.call entry arguments refl in
       let given = map (argument_value reading s) arguments in
       answers entry given call.there (call.inputs ∙ sym (length-map arguments (argument_value reading s)))
-          (All-map IsValue (argument_value reading s) arguments (λ k d inside. argument_value-within fields limits.alarms s (get_or arguments k d) (call.arguments_are k d inside)))
+      (All-map IsValue (argument_value reading s) arguments (λ k d inside. argument_value-within fields limits.alarms s (get_or arguments k d) (call.arguments_are k d inside)))
 
 -- ---- means
 
@@ -143,8 +146,8 @@ average_at-within : (first : List ℤ) (more : List (List ℤ)) → All (All IsV
 average_at-within first more each cell =
     let some : 0 < length (first ∷ more) = omega arith in
     between-within (average_at (first ∷ more) cell)
-        (near_of-low (sum_at (first ∷ more) cell) (length (first ∷ more)) greatest some (sum_at-low (first ∷ more) each cell))
-        (near_of-high (sum_at (first ∷ more) cell) (length (first ∷ more)) greatest some (sum_at-high (first ∷ more) each cell))
+    (near_of-low (sum_at (first ∷ more) cell) (length (first ∷ more)) greatest some (sum_at-low (first ∷ more) each cell))
+    (near_of-high (sum_at (first ∷ more) cell) (length (first ∷ more)) greatest some (sum_at-high (first ∷ more) each cell))
 
 -- ---- new values
 
@@ -160,8 +163,9 @@ module _ (layout : Layout) (fields : List FieldWorld) (held : All (IsHeld (cells
 
   kept-at : (k : ℕ) → All (All IsValue) (field_at fields k).kept
   kept-at k = elim (cases_lt k (length fields)) [
-      | inl inside ↦ (held k no_field inside).kept_values
-      | inr past ↦ subst (λ (field : FieldWorld). All (All IsValue) field.kept) (sym (get_or_past fields k no_field past)) (λ i d inside. absurd (omega arith)) ]
+    | inl inside ↦ (held k no_field inside).kept_values
+    | inr past ↦ subst (λ (field : FieldWorld). All (All IsValue) field.kept) (sym (get_or_past fields k no_field past)) (λ i d inside. absurd (omega arith))
+  ]
 
   mean-fitting : (k : ℕ) (values : List ℤ) (kept : List (List ℤ)) → (k < length fields → length values ≡ cells_in layout.grid) → All IsValue values → All (All IsValue) kept
       → IsFitting (length fields) (cells_in layout.grid) (record { field = k; values = mean_values layout values kept })
@@ -228,8 +232,9 @@ module _ (cells count : ℕ) where
 
 one-of : {A : Type 0} (P : A → Type 0) (x : A) → P x → All P (x ∷ [])
 one-of P x holds = All-from_get_or P (x ∷ []) x (λ i inside. elim i as (λ i. i < 1 → P (get_or (x ∷ []) i x)) [
-    | zero ↦ λ inside. holds
-    | suc i ↦ λ inside. absurd (omega arith) ] inside)
+  | zero ↦ λ inside. holds
+  | suc i ↦ λ inside. absurd (omega arith)
+] inside)
 
 held-kept_more : (reading : Reading) (count : ℕ) (fields : List FieldWorld) (row : SetRow) → ((s : ℕ) → IsValue (rule_value reading row.rule s))
     → AreHeld (cells_in reading.layout.grid) count fields → AreHeld (cells_in reading.layout.grid) count (kept_more reading fields row)
@@ -252,8 +257,9 @@ held-kept_more reading count fields row values are =
 -- a member more
 All-cons : {A : Type 0} (P : A → Type 0) (x : A) (xs : List A) → P x → All P xs → All P (x ∷ xs)
 All-cons P x xs first each = λ i d inside. elim i as (λ i. i < length (x ∷ xs) → P (get_or (x ∷ xs) i d)) [
-    | zero ↦ λ inside. first
-    | suc i ↦ λ inside. each i d (omega arith) ] inside
+  | zero ↦ λ inside. first
+  | suc i ↦ λ inside. each i d (omega arith)
+] inside
 
 -- what holds of one that is the same
 pub from-some : {A : Type 0} (P : A → Type 0) (x y : A) → Some x ≡ Some y → P x → P y
@@ -270,8 +276,9 @@ All-cons_option P (Some x) xs first each = All-cons P x xs (first x refl) each
 pub All-left : {A : Type 0} (P : A → Type 0) (xs ys : List A) → All P (xs ++ ys) → All P xs
 All-left P [] ys each = λ i d inside. absurd (omega arith)
 All-left P (x ∷ xs) ys each = λ i d inside. elim i as (λ i. i < length (x ∷ xs) → P (get_or (x ∷ xs) i d)) [
-    | zero ↦ λ inside. All-head P x (xs ++ ys) each
-    | suc i ↦ λ inside. All-left P xs ys (All-tail P x (xs ++ ys) each) i d (omega arith) ] inside
+  | zero ↦ λ inside. All-head P x (xs ++ ys) each
+  | suc i ↦ λ inside. All-left P xs ys (All-tail P x (xs ++ ys) each) i d (omega arith)
+] inside
 
 pub All-right : {A : Type 0} (P : A → Type 0) (xs ys : List A) → All P (xs ++ ys) → All P ys
 All-right P [] ys each = each
@@ -281,8 +288,9 @@ All-right P (x ∷ xs) ys each = All-right P xs ys (All-tail P x (xs ++ ys) each
 pub All-unmap : {A B : Type 0} (P : B → Type 0) (f : A → B) (xs : List A) → All P (map f xs) → All (λ x. P (f x)) xs
 All-unmap P f [] each = λ i d inside. absurd (omega arith)
 All-unmap P f (x ∷ xs) each = λ i d inside. elim i as (λ i. i < length (x ∷ xs) → P (f (get_or (x ∷ xs) i d))) [
-    | zero ↦ λ inside. All-head P (f x) (map f xs) each
-    | suc i ↦ λ inside. All-unmap P f xs (All-tail P (f x) (map f xs) each) i d (omega arith) ] inside
+  | zero ↦ λ inside. All-head P (f x) (map f xs) each
+  | suc i ↦ λ inside. All-unmap P f xs (All-tail P (f x) (map f xs) each) i d (omega arith)
+] inside
 
 module _ (limits : Limits) (reading : Reading) (values : (k s : ℕ) → IsValue (reading.value k s)) (answers : AreAnswers limits.inputs reading.entries) where
   -- the fields of a component after a phase are as many, each over all cells
@@ -298,19 +306,19 @@ module _ (limits : Limits) (reading : Reading) (values : (k s : ℕ) → IsValue
       let sets = All-map (IsFitting m n) (set_write reading) phase.sets (λ k d inside. over-fitting reading.layout m (get_or phase.sets k d).field (rule_value reading (get_or phase.sets k d).rule) (rule_is (get_or phase.sets k d).rule (set_rules k d inside))) in
       let merges = All-map (IsFitting m n) (merge_write reading) phase.merges (λ k d inside. over-fitting reading.layout m (get_or phase.merges k d).field (merge_value reading (get_or phase.merges k d)) (merge_value-within reading (get_or phase.merges k d))) in
       let writes : All (IsFitting m n) (phase_writes reading fields phase) = All-append (IsFitting m n) (map (average_write reading.layout fields) phase.averages ++ map (set_write reading) phase.sets) (map (merge_write reading) phase.merges)
-              (All-append (IsFitting m n) (map (average_write reading.layout fields) phase.averages) (map (set_write reading) phase.sets) averages sets) merges in
+      (All-append (IsFitting m n) (map (average_write reading.layout fields) phase.averages) (map (set_write reading) phase.sets) averages sets) merges in
       let news = held-all_written n m fields (phase_writes reading fields phase) writes (record { size = refl; each = held }) in
       let left = fold-keeps (AreHeld n m) emptied (held-emptied n m) (all_written fields (phase_writes reading fields phase)) phase.averages news in
       fold-keeps_all (AreHeld n m) (λ (row : SetRow). IsRule limits (length roles) row.rule) (kept_more reading)
-          (λ b row rule are. held-kept_more reading m b row (rule_is row.rule rule) are)
-          (fold emptied (all_written fields (phase_writes reading fields phase)) phase.averages) phase.adds add_rules left
+      (λ b row rule are. held-kept_more reading m b row (rule_is row.rule rule) are)
+      (fold emptied (all_written fields (phase_writes reading fields phase)) phase.averages) phase.adds add_rules left
 
   -- a field's start rule, if it has one
   start-fitting : (fields : ℕ) (roles : List Role) (numbered : ℕ × Field) → IsField limits roles numbered.1 → (start : Option Rule) → numbered.1.start ≡ start
       → ForSome start (λ rule. IsFitting fields (cells_in reading.layout.grid) (record { field = numbered.0; values = rule_values reading rule }))
   start-fitting fields roles numbered is start same = λ rule some.
       over-fitting reading.layout fields numbered.0 (rule_value reading rule)
-          (rule_value-within reading values limits (length roles) answers rule (is.start rule (same ∙ some)).rule_is)
+      (rule_value-within reading values limits (length roles) answers rule (is.start rule (same ∙ some)).rule_is)
 
   -- what each member has, what a function gives of them has
   All-filter_map : {A B : Type 0} (P : A → Type 0) (Q : B → Type 0) (give : A → Option B) → ((x : A) → P x → ForSome (give x) Q) → (xs : List A) → All P xs → All Q (filter_map give xs)
@@ -336,9 +344,9 @@ module _ (limits : Limits) (reading : Reading) (values : (k s : ℕ) → IsValue
       → All (IsHeld (cells_in reading.layout.grid)) fields → AreHeld (cells_in reading.layout.grid) (length fields) (fields_started reading fields described)
   held-fields_started roles described is fields held =
       held-all_written (cells_in reading.layout.grid) (length fields) fields (filter_map (start_write reading) (enumerate_from 0 described))
-          (All-filter_map (λ (numbered : ℕ × Field). IsField limits roles numbered.1) (IsFitting (length fields) (cells_in reading.layout.grid)) (start_write reading)
-              (start_write-fitting (length fields) roles) (enumerate_from 0 described) (All-enumerate (IsField limits roles) 0 described is))
-          (record { size = refl; each = held })
+      (All-filter_map (λ (numbered : ℕ × Field). IsField limits roles numbered.1) (IsFitting (length fields) (cells_in reading.layout.grid)) (start_write reading)
+      (start_write-fitting (length fields) roles) (enumerate_from 0 described) (All-enumerate (IsField limits roles) 0 described is))
+      (record { size = refl; each = held })
 
 -- ---- a component
 
@@ -355,14 +363,14 @@ module _ (limits : Limits) (timing : Timing) (entries : EntryAnswers) (comp : Co
   held-after_run phase phase_is turn world held =
       let reading = reading_of timing entries comp world.fields turn.at turn.substep in
       held-by phase turn (record world { fields = fields_after_run timing entries comp phase turn world.fields }) (length world.fields) turn.last
-          (held-fields_after limits reading (field_value-within (cells_in comp.decomp.grid) world.fields held) answers comp.kind (roles_of comp.fields) phase phase_is world.fields held)
+      (held-fields_after limits reading (field_value-within (cells_in comp.decomp.grid) world.fields held) answers comp.kind (roles_of comp.fields) phase phase_is world.fields held)
 
   -- and so does an initialisation
   pub held-after_init : (world : CompWorld) → All (IsHeld (cells_in comp.decomp.grid)) world.fields → AreHeld (cells_in comp.decomp.grid) (length world.fields) (comp_after_init timing entries comp world).fields
   held-after_init world held =
       let reading = reading_of timing entries comp world.fields (pos 0) (pos 0) in
       held-all_stamped (cells_in comp.decomp.grid) (length world.fields) (pos 0) (fields_started reading world.fields comp.fields) (places_of Export comp.fields)
-          (held-fields_started limits reading (field_value-within (cells_in comp.decomp.grid) world.fields held) answers (roles_of comp.fields) comp.fields is.fields world.fields held)
+      (held-fields_started limits reading (field_value-within (cells_in comp.decomp.grid) world.fields held) answers (roles_of comp.fields) comp.fields is.fields world.fields held)
 
 -- at the start each field has 0 at each cell
 pub held-first : (layout : Layout) → IsHeld (cells_in layout.grid) (first_field layout)

@@ -2,7 +2,7 @@
 use Rattle.std.proofs.Common.{◌≡◌, ℕ, ◌+◌, Bool, true, false, List, refl, ap, ◌∙◌}
 use Rattle.std.specs.Prelude.{ℤ, pos, map, fold, ◌++◌, [], ◌∷◌, Option, Some, if◌then◌else◌}
 use Rattle.std.specs.List.{enumerate_from, filter_map}
-use Rattle.cpl_comp.specs.Marks.{CompMarks, marks_after_init, marks_after_run, marks_of, stamps_at}
+use Rattle.cpl_comp.specs.Marks.{marks_after_init, marks_after_run, marks_of, stamps_at}
 use Rattle.cpl_comp.specs.Readings.{EntryAnswers, Reading, rule_values}
 use Rattle.cpl_comp.specs.Timing.{Timing}
 use Rattle.cpl_comp.specs.Turns.{Turn, all_stamped, comp_after_init, comp_after_run, fields_after_run, places_of, reading_of, stamped, stamped_exports, step_end, step_ended}

@@ -1,13 +1,13 @@
 -- Runs and initialisations stamp exports alone.
-use Rattle.std.proofs.Common.{◌≡◌, ◌≢◌, ℕ, ◌+◌, Bool, true, false, List, [], ◌∷◌, length, get_or, refl, sym, subst, ◌∙◌, arith}
-use Rattle.std.specs.Prelude.{ℤ, pos, map, fold, filter, slice_get, Option, Some, None, if◌then◌else◌}
+use Rattle.std.proofs.Common.{◌≡◌, ◌≢◌, ℕ, ◌+◌, Bool, true, false, List, length, get_or, refl, sym, subst, ◌∙◌}
+use Rattle.std.specs.Prelude.{ℤ, pos, slice_get, Option, Some, None, if◌then◌else◌}
 use Rattle.std.specs.List.{All, range_with_len}
 use Rattle.std.specs.Option.{option_map_or}
 use Rattle.std.proofs.lemmas.Bool.{true≢false}
-use Rattle.std.proofs.lemmas.List.Elements.{All-filter, All-from_get_or, filter_passes}
+use Rattle.std.proofs.lemmas.List.Elements.{All-filter, filter_passes}
 use Rattle.cpl_comp.specs.Components.{is_role, written_fields}
 use Rattle.cpl_comp.specs.Marks.{CompMarks, marks_after_init, marks_after_run, stamps_at}
-use Rattle.cpl_comp.specs.Turns.{Turn, has_role, is_among, places_of, stamped_exports, step_end, written_exports}
+use Rattle.cpl_comp.specs.Turns.{Turn, has_role, is_among, places_of, stamped_exports, step_end}
 use Rattle.cpl_comp.specs.Worlds.{changed}
 use Rattle.cpl_comp.specs.declared.component.Comp.{Comp}
 use Rattle.cpl_comp.specs.declared.component.Field.{Field}
@@ -41,7 +41,7 @@ places-have role fields = λ i d inside. filter_passes (has_role role fields) (r
 stamps-other : (time : ℤ) (k : ℕ) (stamps : List (Option ℤ)) (places : List ℕ) → All (λ place. k ≢ place) places → get_or (stamps_at time stamps places) k None ≡ get_or stamps k None
 stamps-other time k stamps places others =
     fold-keeps_all (λ (xs : List (Option ℤ)). get_or xs k None ≡ get_or stamps k None) (λ place. k ≢ place) (λ xs place. changed (λ stamp. Some time) place xs)
-        (λ xs place other same. changed-other (λ stamp. Some time) place k xs None other ∙ same) stamps places others refl
+    (λ xs place other same. changed-other (λ stamp. Some time) place k xs None other ∙ same) stamps places others refl
 
 -- none of the exports of a component is a variable's place
 exports-differ : (fields : List Field) (k : ℕ) → has_role Var fields k ≡ true → All (λ place. k ≢ place) (places_of Export fields)

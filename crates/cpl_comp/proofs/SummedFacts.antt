@@ -1,5 +1,5 @@
 -- What a phase makes of kept fields depends on their number and their sums alone.
-use Rattle.std.proofs.Common.{◌≡◌, ℕ, zero, suc, ◌+◌, ℤ, pos, ◌+ℤ◌, List, [], ◌∷◌, ◌++◌, length, get_or, refl, sym, ap, ◌∙◌, arith}
+use Rattle.std.proofs.Common.{◌≡◌, ℕ, ◌+◌, ℤ, pos, ◌+ℤ◌, List, [], ◌∷◌, ◌++◌, length, get_or, refl, sym, ap, ◌∙◌, arith}
 use Rattle.std.specs.Prelude.{map, fold}
 use Rattle.std.proofs.Math.ListN.{get_or-map}
 use Rattle.std.proofs.lemmas.Int.{ints}
@@ -9,9 +9,8 @@ use Rattle.cpl_mediator.specs.Averages.{number_at, sum_at}
 use Rattle.cpl_comp.specs.Readings.{Reading, rule_values}
 use Rattle.cpl_comp.specs.Summed.{FieldSums, mean_by, mean_write, sums_after, sums_emptied, sums_kept, sums_of, sums_with_more, sums_writes, sums_written}
 use Rattle.cpl_comp.specs.Worlds.{FieldWorld, no_field}
-use Rattle.cpl_comp.specs.Writes.{Write, all_written, average_write, emptied, fields_after, kept_more, mean_values, merge_write, phase_writes, set_write, written}
+use Rattle.cpl_comp.specs.Writes.{all_written, average_write, emptied, fields_after, kept_more, mean_values, merge_write, phase_writes, set_write, written}
 use Rattle.cpl_comp.specs.declared.component.Phase.{Phase}
-use Rattle.cpl_comp.specs.declared.component.SetRow.{SetRow}
 use Rattle.cpl_comp.proofs.ChangeFacts.{fold-seen, map-changed}
 
 -- the sum at a cell with one field more
@@ -55,12 +54,12 @@ sums-fields_after reading fields phase =
     let news = all_written fields writes in
     let left = fold emptied news phase.averages in
     let put : map sums_of news ≡ fold sums_written (map sums_of fields) (sums_writes reading (map sums_of fields) phase) =
-        fold-seen (map sums_of) written sums_written
-            (λ b write. map-changed sums_of (λ field. record field { values = write.values }) (λ field. record field { values = write.values }) (λ field. refl) write.field b) fields writes
-        ∙ ap (fold sums_written (map sums_of fields)) (writes-same reading fields phase) in
+    fold-seen (map sums_of) written sums_written
+    (λ b write. map-changed sums_of (λ field. record field { values = write.values }) (λ field. record field { values = write.values }) (λ field. refl) write.field b) fields writes
+    ∙ ap (fold sums_written (map sums_of fields)) (writes-same reading fields phase) in
     fold-seen (map sums_of) (kept_more reading) (sums_kept reading)
-        (λ b row. map-changed sums_of (λ field. record field { kept = field.kept ++ rule_values reading row.rule ∷ [] }) (sums_with_more (rule_values reading row.rule)) (sums-more (rule_values reading row.rule)) row.field b) left phase.adds
+    (λ b row. map-changed sums_of (λ field. record field { kept = field.kept ++ rule_values reading row.rule ∷ [] }) (sums_with_more (rule_values reading row.rule)) (sums-more (rule_values reading row.rule)) row.field b) left phase.adds
     ∙ ap (λ (xs : List FieldSums). fold (sums_kept reading) xs phase.adds)
-        (fold-seen (map sums_of) emptied sums_emptied
-            (λ b k. map-changed sums_of (λ field. record field { kept = [] }) (λ field. record field { count = 0; sums = λ cell. pos 0 }) (λ field. refl) k b) news phase.averages
-        ∙ ap (λ (xs : List FieldSums). fold sums_emptied xs phase.averages) put)
+    (fold-seen (map sums_of) emptied sums_emptied
+    (λ b k. map-changed sums_of (λ field. record field { kept = [] }) (λ field. record field { count = 0; sums = λ cell. pos 0 }) (λ field. refl) k b) news phase.averages
+    ∙ ap (λ (xs : List FieldSums). fold sums_emptied xs phase.averages) put)

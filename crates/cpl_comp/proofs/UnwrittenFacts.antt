@@ -1,12 +1,12 @@
 -- What a phase doesn't write stays.
-use Rattle.std.proofs.Common.{◌≡◌, ◌≢◌, ℕ, List, [], ◌∷◌, ◌++◌, length, get_or, refl, sym, ap, ◌∙◌, arith}
+use Rattle.std.proofs.Common.{◌≡◌, ◌≢◌, ℕ, List, [], ◌∷◌, ◌++◌, get_or, refl, sym, ap, ◌∙◌}
 use Rattle.std.specs.Prelude.{ℤ, map, fold}
 use Rattle.std.specs.List.{All}
 use Rattle.std.proofs.Math.ListN.{get_or-map}
 use Rattle.std.proofs.lemmas.List.Elements.{All-append, All-map}
 use Rattle.cpl_comp.specs.Components.{written_fields}
 use Rattle.cpl_comp.specs.Readings.{Reading, rule_values}
-use Rattle.cpl_comp.specs.Worlds.{FieldWorld, changed, field_at, no_field}
+use Rattle.cpl_comp.specs.Worlds.{FieldWorld, field_at, no_field}
 use Rattle.cpl_comp.specs.Writes.{Write, all_written, average_write, emptied, fields_after, kept_more, merge_write, phase_writes, set_write, written}
 use Rattle.cpl_comp.specs.declared.component.MergeRow.{MergeRow}
 use Rattle.cpl_comp.specs.declared.component.Phase.{Phase}
@@ -27,7 +27,7 @@ written-other k fields write other =
 all_written-other : (k : ℕ) (fields : List FieldWorld) (writes : List Write) → All (λ (write : Write). k ≢ write.field) writes → get_or (values_of (all_written fields writes)) k [] ≡ get_or (values_of fields) k []
 all_written-other k fields writes others =
     fold-keeps_all (λ (fs : List FieldWorld). get_or (values_of fs) k [] ≡ get_or (values_of fields) k []) (λ (write : Write). k ≢ write.field) written
-        (λ fs write other same. written-other k fs write other ∙ same) fields writes others refl
+    (λ fs write other same. written-other k fs write other ∙ same) fields writes others refl
 
 -- what is kept and forgotten leaves all values
 values-emptied : (fields : List FieldWorld) (k : ℕ) → values_of (emptied fields k) ≡ values_of fields
@@ -48,7 +48,7 @@ module _ (reading : Reading) (fields : List FieldWorld) (phase : Phase) (k : ℕ
       let of_sets = All-map P (set_write reading) phase.sets (All-unmap (λ j. k ≢ j) (λ (row : SetRow). row.field) phase.sets (All-left (λ j. k ≢ j) sets merges both)) in
       let of_merges = All-map P (merge_write reading) phase.merges (All-unmap (λ j. k ≢ j) (λ (row : MergeRow). row.field) phase.merges (All-right (λ j. k ≢ j) sets merges both)) in
       All-append P (map (average_write reading.layout fields) phase.averages ++ map (set_write reading) phase.sets) (map (merge_write reading) phase.merges)
-          (All-append P (map (average_write reading.layout fields) phase.averages) (map (set_write reading) phase.sets) of_averages of_sets) of_merges
+      (All-append P (map (average_write reading.layout fields) phase.averages) (map (set_write reading) phase.sets) of_averages of_sets) of_merges
 
   -- a field to which the phase gives no value keeps its values
   pub values-unwritten : (field_at (fields_after reading fields phase) k).values ≡ (field_at fields k).values
@@ -56,7 +56,7 @@ module _ (reading : Reading) (fields : List FieldWorld) (phase : Phase) (k : ℕ
       let news = all_written fields (phase_writes reading fields phase) in
       let left = fold emptied news phase.averages in
       let same : values_of (fields_after reading fields phase) ≡ values_of news =
-          fold-seen_same values_of (kept_more reading) (values-kept_more reading) left phase.adds ∙ fold-seen_same values_of emptied values-emptied news phase.averages in
+      fold-seen_same values_of (kept_more reading) (values-kept_more reading) left phase.adds ∙ fold-seen_same values_of emptied values-emptied news phase.averages in
       sym (get_or-map (λ (field : FieldWorld). field.values) (fields_after reading fields phase) k no_field)
       ∙ ap (λ (xs : List (List ℤ)). get_or xs k []) same
       ∙ all_written-other k fields (phase_writes reading fields phase) writes-others

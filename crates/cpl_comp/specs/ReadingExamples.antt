@@ -1,11 +1,11 @@
 -- What rules read at a moment, evaluated.
-use Rattle.std.specs.Prelude.{◌≡◌, ℕ, ◌*◌, ◌+◌, ℤ, pos, negsuc, ◌+ℤ◌, false, ◌==◌, if◌then◌else◌, List, [], ◌∷◌, slice_index_or}
+use Rattle.std.specs.Prelude.{◌≡◌, ℕ, ◌*◌, ◌+◌, ℤ, pos, negsuc, ◌+ℤ◌, false, ◌==◌, if◌then◌else◌, [], ◌∷◌, slice_index_or}
 use Rattle.cpl_base.specs.Numbers.{million}
 use Rattle.cpl_calendar.specs.declared.calendar.Cal.TheVariants.{Gregorian}
 use Rattle.cpl_clock.specs.declared.alarm.Alarm.TheVariants.{Every, Monthly}
 use Rattle.cpl_formula.specs.Reads.{read_at}
 use Rattle.cpl_formula.specs.declared.arguments.Argument.TheVariants.{Number, Cell}
-use Rattle.cpl_formula.specs.declared.formula.Formula.{Formula, roll-Formula}
+use Rattle.cpl_formula.specs.declared.formula.Formula.{roll-Formula}
 use Rattle.cpl_formula.specs.declared.formula.Formula.TheOpen as tree
 use Rattle.cpl_formula.specs.declared.formula.ReadName.{ReadName}
 use Rattle.cpl_formula.specs.declared.formula.ReadName.TheVariants as names

@@ -1,5 +1,5 @@
 -- What rules read, and the value that a rule gives at a cell.
-use Rattle.std.specs.Prelude.{ℕ, ℤ, pos, ◌*ℤ◌, ◌/◌, Bool, true, false, List, map, slice_get}
+use Rattle.std.specs.Prelude.{ℕ, ℤ, pos, ◌*ℤ◌, Bool, true, false, List, map, slice_get}
 use Rattle.std.specs.Option.{option_map_or}
 use Rattle.cpl_base.specs.Numbers.{clip, million}
 use Rattle.cpl_calendar.specs.declared.times.Parts.{Parts}

@@ -8,7 +8,6 @@ use Rattle.cpl_comp.specs.Halos.{has_read, is_field_at}
 use Rattle.cpl_comp.specs.Turns.{Turn, places_of}
 use Rattle.cpl_comp.specs.Worlds.{CompWorld, FieldWorld, active_cells, field_at, field_value}
 use Rattle.cpl_comp.specs.declared.component.Comp.{Comp}
-use Rattle.cpl_comp.specs.declared.component.Field.{Field}
 use Rattle.cpl_comp.specs.declared.component.Kind.{Kind}
 use Rattle.cpl_comp.specs.declared.component.Kind.TheVariants.{Model, Mediator}
 use Rattle.cpl_comp.specs.declared.component.Phase.{Phase}
@@ -51,7 +50,8 @@ is_read phase k =
     list_any (has_read (λ read. is_field_at k read.name)) (rules_of phase)
     || list_any (λ row. list_any (λ term. term.0 == k || term.1 == k) row.terms) phase.merges
 
--- whether the end of a run checks an import that has an export: a model's always, a mediator's where the phase reads it
+-- whether a run looks at the stamp of an import that has an export: of a model always, of a mediator where the phase
+-- reads it
 abbrev pub is_checked : Kind → Phase → ℕ → Bool
 is_checked Model phase k = true
 is_checked Mediator phase k = is_read phase k
@@ -79,8 +79,8 @@ abbrev pub import_fault : Comp → Phase → Turn → (ℕ → Bool) → List Fi
 import_fault comp phase turn connected fields numbered =
     let stamp = (field_at fields numbered.1).stamp in
     option_map_or
-        (λ time. unless (is_stamp stamp time) (1 + numbered.0) (Import numbered.1 stamp time))
-        (wanted_of comp phase turn connected numbered.1) []
+    (λ time. unless (is_stamp stamp time) (1 + numbered.0) (Import numbered.1 stamp time))
+    (wanted_of comp phase turn connected numbered.1) []
 
 -- all imports
 abbrev pub import_faults : Comp → Phase → Turn → (ℕ → Bool) → List FieldWorld → List Fault

@@ -13,7 +13,7 @@ use Rattle.cpl_comp.specs.declared.component.Kind.{Kind}
 use Rattle.cpl_comp.specs.declared.component.Kind.TheVariants.{Model, Mediator}
 use Rattle.cpl_comp.specs.declared.component.Phase.{Phase}
 use Rattle.cpl_comp.specs.declared.component.Role.{Role}
-use Rattle.cpl_comp.specs.declared.component.Role.TheVariants.{Export, Import}
+use Rattle.cpl_comp.specs.declared.component.Role.TheVariants.{Export}
 
 -- One operation of a run: the time and the step of the iteration in which it stands, the time from which it leads on
 -- and for how long, and whether it is the first and the last of this step. All in seconds, after the start.

@@ -1,6 +1,6 @@
 -- What the tree tells of the runs that end is what its operations count.
-use Rattle.std.proofs.Common.{◌≡◌, ℕ, zero, suc, ◌+◌, ◌*◌, ◌/◌, ◌%◌, ◌<◌, ◌≤◌, min, Bool, true, false, eqb, List, [], ◌∷◌, ◌++◌, length, drop, get_or, map, Option, Some, None, refl, sym, ap, subst, ◌∙◌, arith}
-use Rattle.std.specs.Prelude.{pos, ◌==◌, ◌&&◌, if◌then◌else◌, slice_index_or}
+use Rattle.std.proofs.Common.{◌≡◌, ℕ, zero, suc, ◌+◌, ◌*◌, ◌/◌, ◌%◌, ◌<◌, ◌≤◌, min, Bool, true, false, List, [], ◌∷◌, ◌++◌, length, drop, get_or, map, Option, Some, None, refl, sym, ap, ◌∙◌, arith}
+use Rattle.std.specs.Prelude.{pos, ◌==◌, if◌then◌else◌, slice_index_or}
 use Rattle.std.specs.List.{flat_map, list_all, range_with_len}
 use Rattle.std.proofs.lemmas.Bool.{and_parts, eq-eqb, ne_eqb}
 use Rattle.std.proofs.Math.Nat.{div-add-mod}
@@ -17,8 +17,8 @@ use Rattle.cpl_sequence.specs.declared.element.TopLoop.{TopLoop}
 use Rattle.cpl_sequence.specs.declared.op.Op.{Op}
 use Rattle.cpl_sequence.specs.declared.op.Op.TheVariants.{Run as RunOp}
 use Rattle.cpl_sequence.proofs.CapFacts.{min-mul-min}
-use Rattle.cpl_sequence.proofs.SoundFacts.{IsLoop, inner_from, loop_from, part_from}
-use Rattle.cpl_sequence.proofs.TreeFacts.{Every, every_all, every_map, induction, element_ops-Link, element_ops-Loop, element_ops-Run, is_timed-Run}
+use Rattle.cpl_sequence.proofs.SoundFacts.{inner_from, loop_from, part_from}
+use Rattle.cpl_sequence.proofs.TreeFacts.{Every, every_all, induction, element_ops-Link, element_ops-Loop, element_ops-Run, is_timed-Run}
 
 -- what is no remainder is a product, and its factor isn't 0
 quotient-some : (whole part q r : ℕ) → part * q + r ≡ whole → r ≡ 0 → 0 < whole → 0 < q
@@ -76,7 +76,7 @@ module _ (counts : List ℕ) where
   run-counts component phase time step (Some substep) some timed =
       let part = part_from substep step timed in
       last-counts (λ i last. RunOp component phase (pos time) (pos step) (pos (time + i * substep)) (pos substep) (i == 0) last) (slice_index_or counts component 0) (step / substep) 0 (step / substep)
-          (λ i last. refl) (omega arith) (parts-some step substep some part.exact)
+      (λ i last. refl) (omega arith) (parts-some step substep some part.exact)
 
   -- ---- what elements count, without a cap
 
@@ -119,12 +119,12 @@ module _ (counts : List ℕ) where
   element-full = induction IsFull
       (λ link time step some timed. rw (element_ops-Link link time step, full_ends-Link link) refl)
       (λ component phase substep time step some timed.
-          rw (element_ops-Run component phase substep time step, full_ends-Run component phase substep)
-              (run-counts component phase time step substep some (sym (is_timed-Run component phase substep step) ∙ timed)))
+      rw (element_ops-Run component phase substep time step, full_ends-Run component phase substep)
+      (run-counts component phase time step substep some (sym (is_timed-Run component phase substep step) ∙ timed)))
       (λ inner duration body each time step some timed.
-          let loop = (inner_from inner duration body step timed).loop in
-          rw (element_ops-Loop inner duration body time step, full_ends-Loop inner duration body)
-              (end_total-iterations (λ start. body_ops body start inner) (total_of (map full_ends body)) (λ start. full-body body each start inner loop.step_some loop.each) inner duration time))
+      let loop = (inner_from inner duration body step timed).loop in
+      rw (element_ops-Loop inner duration body time step, full_ends-Loop inner duration body)
+      (end_total-iterations (λ start. body_ops body start inner) (total_of (map full_ends body)) (λ start. full-body body each start inner loop.step_some loop.each) inner duration time))
 
   -- ---- with a cap
 
@@ -145,11 +145,11 @@ module _ (counts : List ℕ) where
         (λ link. rw (element_ends-Link link, full_ends-Link link) refl)
         (λ component phase substep. rw (element_ends-Run component phase substep, full_ends-Run component phase substep) (let few = small component in omega (arith, few)))
         (λ inner duration body each.
-            let all = capped-body 0 body (omega arith) each in
-            let total = total_of (map full_ends body) in
-            let capped : body_ends counts body ≡ min total greatest_count = all ∙ ap (λ n. min n greatest_count) (let none : 0 + total ≡ total = omega arith in none) in
-            rw (element_ends-Loop inner duration body, full_ends-Loop inner duration body)
-                (ap (λ n. min ((duration / inner) * n) greatest_count) capped ∙ min-mul-min (duration / inner) total greatest_count))
+        let all = capped-body 0 body (omega arith) each in
+        let total = total_of (map full_ends body) in
+        let capped : body_ends counts body ≡ min total greatest_count = all ∙ ap (λ n. min n greatest_count) (let none : 0 + total ≡ total = omega arith in none) in
+        rw (element_ends-Loop inner duration body, full_ends-Loop inner duration body)
+        (ap (λ n. min ((duration / inner) * n) greatest_count) capped ∙ min-mul-min (duration / inner) total greatest_count))
 
     -- a loop that stands in no other counts what its operations do
     top-counts : (top : TopLoop) → is_timed_top top ≡ true → top_ends counts top ≡ min (end_total counts (top_ops top)) greatest_count
@@ -159,7 +159,7 @@ module _ (counts : List ℕ) where
         let all = capped-body 0 top.body (omega arith) (every_all IsCapped element-capped top.body) in
         let capped : body_ends counts top.body ≡ min total greatest_count = all ∙ ap (λ n. min n greatest_count) (let none : 0 + total ≡ total = omega arith in none) in
         let full = end_total-iterations (λ start. body_ops top.body start top.step) total
-            (λ start. full-body top.body (every_all IsFull element-full top.body) start top.step loop.step_some loop.each) top.step top.duration top.begin in
+        (λ start. full-body top.body (every_all IsFull element-full top.body) start top.step loop.step_some loop.each) top.step top.duration top.begin in
         ap (λ n. min ((top.duration / top.step) * n) greatest_count) capped ∙ min-mul-min (top.duration / top.step) total greatest_count ∙ ap (λ n. min n greatest_count) (sym full)
 
     -- and so do all

@@ -1,5 +1,5 @@
 -- What the runs of a sequence count as they end: each a number of its component.
-use Rattle.std.specs.Prelude.{ℕ, ◌+◌, ◌*◌, ◌/◌, min, Bool, if◌then◌else◌, List, [], ◌∷◌, map, slice_index_or}
+use Rattle.std.specs.Prelude.{ℕ, ◌+◌, ◌*◌, ◌/◌, min, if◌then◌else◌, List, [], ◌∷◌, map, slice_index_or}
 use Rattle.cpl_sequence.specs.Marks.{greatest_count}
 use Rattle.cpl_sequence.specs.declared.element.Element.{Element}
 use Rattle.cpl_sequence.specs.declared.element.Element.TheOpen.{Element-F, Link, Run, Loop}

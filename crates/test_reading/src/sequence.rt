@@ -462,7 +462,11 @@ fn runs_that_end(rt: HostRuntime) {
         (parts, &[], 0),
         (long, &[1], 2_000_000_000_000),
         (long, &[1, 5, 1], 3_000_000_000_000),
-        (long, &[18_446_744_073_709_551_615], 18_446_744_073_709_551_615),
+        (
+            long,
+            &[18_446_744_073_709_551_615],
+            18_446_744_073_709_551_615,
+        ),
     ];
     for (text, counts, wanted) in cases {
         expect_runs(&rt, rt.alloc(), text, counts, wanted);
