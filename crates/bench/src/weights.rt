@@ -16,14 +16,15 @@ const PLACES: u64 = 1_000;
 /// A row has so many factors at most.
 const MOST: usize = 16;
 
-/// The text of so many times 1,024 records, of which this many follow one another for one destination cell. There are
-/// as many source cells as destination cells.
+/// The text of so many times 1,024 records, of which this many follow one another for one destination cell. They ascend
+/// by their destination cells and then by their source cells, of which there are as many.
 pub fn text(alloc: Global, rounds: u64, factors: u64) -> Result<Vec<u8>, Memory> {
     let cells = cells(rounds);
     let mut text = Vec::new(alloc);
     for dst in 0..cells {
+        let first = dst.min(cells.saturating_sub(factors));
         for k in 0..factors {
-            record(&mut text, (dst.wrapping_add(k)) % cells, dst)?;
+            record(&mut text, first.saturating_add(k), dst)?;
         }
     }
     Ok(text)

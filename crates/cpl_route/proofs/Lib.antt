@@ -4,5 +4,6 @@ mod PairFacts
 mod PickFacts
 mod ReachFacts
 mod RouteFacts
+pub mod SharedFacts
 mod TableFacts
 mod WalkFacts

@@ -1,7 +1,7 @@
 -- The definitions of routes, evaluated on examples.
 use Rattle.std.specs.Prelude.{◌≡◌, ℕ, pos, neg_ℤ, false, true, Bool, List, [], ◌∷◌}
 use Rattle.cpl_grid.specs.Owners.{Layout}
-use Rattle.cpl_route.specs.Routes.{Leg, cells_between, cells_sent, ends_of, halo_route, pick_route, redist_route}
+use Rattle.cpl_route.specs.Routes.{Leg, cells_between, cells_sent, ends_of, halo_route, is_owned, pick_route, redist_route, shared_cells}
 use Rattle.cpl_route.specs.declared.need.Need.{Need}
 
 -- a grid on so many by so many PETs from one on
@@ -30,6 +30,7 @@ pub record RouteExamples : Type 0 where
   pub five_cells : five ≡ leg 0 1 (1 ∷ 2 ∷ []) ∷ leg 1 1 (3 ∷ []) ∷ leg 1 2 (4 ∷ []) ∷ leg 2 2 (5 ∷ []) ∷ []
   pub five_ends : ends_of five ≡ (0, 1) ∷ (1, 1) ∷ (1, 2) ∷ (2, 2) ∷ []
   pub five_sent : cells_sent five ≡ 5
+  pub five_shared : shared_cells (layout 5 1 false 3 1 0) (is_owned (layout 5 1 false 2 1 1)) 0 1 ≡ 1 ∷ 2 ∷ []
   pub five_there : cells_between five 0 1 ≡ 1 ∷ 2 ∷ []
   pub five_not_there : cells_between five 0 2 ≡ []
   pub other_shape : redist_route (layout 6 1 false 2 1 0) (layout 3 2 false 3 1 0)

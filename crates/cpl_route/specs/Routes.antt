@@ -1,6 +1,6 @@
 -- Routes: which cells each PET sends to each other.
 use Rattle.std.specs.Prelude.{◌≡◌, ℕ, ◌+◌, ◌<◌, ◌≤◌, ◌==◌, ◌||◌, ◌&&◌, ℤ, Bool, true, not, nat_le, slice_index_or, Result, Ok, Err, Some, slice_get, nat_lt, List, [], length, map, filter, ◌∷◌, sum_by, if◌then◌else◌}
-use Rattle.std.specs.List.{All, flat_map, list_any, range_with_len}
+use Rattle.std.specs.List.{All, Contains, flat_map, list_any, range_with_len}
 use Rattle.cpl_grid.specs.Grid.{IsOffset, cells_in, neighbour_of}
 use Rattle.cpl_grid.specs.Owners.{Layout, cells_of, owner_of, pets_in}
 use Rattle.cpl_route.specs.declared.fault.RouteFault.{RouteFault}
@@ -137,3 +137,12 @@ AreAscending pairs =
 pub record AreLegs (legs : List Leg) : Type 0 where
   pub ascending : AreAscending (ends_of legs)
   pub some : All (λ leg. 0 < length leg.cells) legs
+
+-- What a route sends from one PET to another: from an owner to a receiver the cells that they share, and nothing between others. Shared
+-- cells ascend, each once, from 1 on.
+pub record AreSharedCells (src : Layout) (is_needed : ℕ → ℕ → Bool) (receivers : List ℕ) : Type 0 where
+  pub shared : (from to : ℕ) → Contains (pets_of src) from → Contains receivers to
+      → cells_between (route_of src is_needed receivers) from to ≡ shared_cells src is_needed from to
+  pub no_owner : (from to : ℕ) → ¬ Contains (pets_of src) from → cells_between (route_of src is_needed receivers) from to ≡ []
+  pub no_receiver : (from to : ℕ) → ¬ Contains receivers to → cells_between (route_of src is_needed receivers) from to ≡ []
+  pub rising : (from to : ℕ) → IsRising 1 (shared_cells src is_needed from to)

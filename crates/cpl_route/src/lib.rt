@@ -6,6 +6,7 @@ mod examples;
 mod fault;
 mod halo;
 mod halo_pair;
+mod laws;
 mod need;
 mod needs;
 mod owned;
@@ -20,5 +21,6 @@ mod walk;
 
 pub use examples::route_examples;
 pub use fault::RouteFault;
+pub use laws::route_laws;
 pub use need::{Need, are_ascending};
 pub use route::Route;

@@ -9,7 +9,7 @@ use Rattle.cpl_base.specs.declared.value.ValFault.{ValFault}
 use Rattle.cpl_base.specs.declared.value.ValFault.TheVariants.{Digits, Places, Range}
 use Rattle.cpl_base.proofs.NumeralsFacts.{numeral_of-bound}
 use Rattle.cpl_smm.specs.Files.{factors_with}
-use Rattle.cpl_smm.specs.Kept.{Judged, judged_from, judged_step, kept_answer, kept_factor, kept_from, pair_number}
+use Rattle.cpl_smm.specs.Kept.{Judged, judged_from, judged_step, kept_answer, kept_factor, kept_from, pair_number, pair_of}
 use Rattle.cpl_smm.specs.Records.{Factor, IsWeight, fields_from, fields_in, greatest_weight, is_cell, most_records, record_factor, value_or, weight_in_range}
 use Rattle.cpl_smm.specs.Rows.{is_pair}
 use Rattle.cpl_smm.specs.declared.entries.KeptFactor.{KeptFactor}
@@ -301,7 +301,7 @@ alone before factor small ranged unique none a b repeat =
               let (x, here, of) = kept_from-of 1 before a early in
               let fails = any-none (is_pair factor.src factor.dst) before x none here in
               let pair : pair_number x.dst x.src ≡ pair_number factor.dst factor.src =
-              sym (ap (λ (k : KeptFactor). k.pair) of) ∙ repeat.same ∙ ap (λ (k : KeptFactor). k.pair) is in
+              sym (ap (λ (k : KeptFactor). pair_of k) of) ∙ repeat.same ∙ ap (λ (k : KeptFactor). pair_of k) is in
               let passes = is_pair-from factor.src factor.dst x small (ranged x here) pair in
               false≢true (sym fails ∙ passes)
           | inr gone ↦ gone

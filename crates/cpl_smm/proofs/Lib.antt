@@ -1,3 +1,4 @@
+mod ColumnFacts
 mod CountFacts
 mod FileFacts
 mod JudgedFacts

@@ -81,17 +81,17 @@ find-permutation {X = X} p xs ys moved unique = by (find p xs) (find p ys) refl 
         absurd (cc)
 
 -- what passes a filter is found behind it
-pub find-filter : {X : Type 0} (p q : X → Bool) (xs : List X) → ((x : X) → p x ≡ true → q x ≡ true) → find p (filter q xs) ≡ find p xs
+pub find-filter : {X : Type 0} (p q : X → Bool) (xs : List X) → ((x : X) → IsIn x xs → p x ≡ true → q x ≡ true) → find p (filter q xs) ≡ find p xs
 find-filter p q [] implies = refl
 find-filter p q (x ∷ xs) implies =
     elim (cases_Bool (q x)) [
       | inl kept ↦ rw kept (elim (cases_Bool (p x)) [
         | inl passes ↦ rw passes refl
-        | inr fails ↦ rw fails (find-filter p q xs implies)
+        | inr fails ↦ rw fails (find-filter p q xs (λ y there. implies y (inr there)))
       ])
       | inr gone ↦ elim (cases_Bool (p x)) [
-        | inl passes ↦ let kept = implies x passes in absurd (cc)
-        | inr fails ↦ rw (gone, fails) (find-filter p q xs implies)
+        | inl passes ↦ let kept = implies x (inl refl) passes in absurd (cc)
+        | inr fails ↦ rw (gone, fails) (find-filter p q xs (λ y there. implies y (inr there)))
       ]
     ]
 

@@ -1,7 +1,7 @@
 -- Which factor is the first that has the cells of an earlier one: by the order of the file, and among sorted factors.
 use Rattle.std.proofs.Common.{◌≡◌, ◌⊎◌, ◌∙◌, ℕ, ◌+◌, ◌*◌, ◌<◌, ◌≤◌, min, List, [], ◌∷◌, Option, Some, None, refl, sym, ap, inl, inr, arith}
 use Rattle.std.proofs.lemmas.Bool.{cases_eq, cases_lt, eq-eqb, ne_eqb}
-use Rattle.cpl_smm.specs.Kept.{least_behind, least_repeat, lesser, repeat_number}
+use Rattle.cpl_smm.specs.Kept.{least_behind, least_repeat, lesser, pair_of, repeat_number}
 use Rattle.cpl_smm.specs.declared.entries.KeptFactor.{KeptFactor}
 use Rattle.cpl_smm.proofs.MemberFacts.{IsIn}
 
@@ -9,7 +9,7 @@ use Rattle.cpl_smm.proofs.MemberFacts.{IsIn}
 pub record IsRepeat (factors : List KeptFactor) (a b : KeptFactor) : Type 0 where
   pub earlier : IsIn a factors
   pub later : IsIn b factors
-  pub same : a.pair ≡ b.pair
+  pub same : pair_of a ≡ pair_of b
   pub before : a.number < b.number
 
 -- the number is the least of factors that have the cells of an earlier one, if there is one
@@ -38,7 +38,7 @@ IsLeastRepeat-same xs ys None (Some m) to from one other =
 
 -- a factor's place in the order: its pair, and its number among those of equal pairs
 abbrev pub rank : KeptFactor → ℕ
-rank factor = factor.pair * 8388608 + factor.number
+rank factor = pair_of factor * 8388608 + factor.number
 
 -- ranks ascend, from above this one
 unfoldable pub Climbs : ℕ → List KeptFactor → Type 0
@@ -66,14 +66,14 @@ least_behind-from None before factors = refl
 least_behind-from (Some n) before [] = refl
 least_behind-from (Some n) before (factor ∷ factors) =
     let r = repeat_number before factor in
-    least_behind-from (lesser (Some n) r) factor.pair factors
-    ∙ lesser-again (Some n) r (least_behind None factor.pair factors)
-    ∙ ap (lesser (Some n)) (sym (least_behind-from r factor.pair factors))
+    least_behind-from (lesser (Some n) r) (pair_of factor) factors
+    ∙ lesser-again (Some n) r (least_behind None (pair_of factor) factors)
+    ∙ ap (lesser (Some n)) (sym (least_behind-from r (pair_of factor) factors))
 
 -- a search with one factor more in front
 least_behind-next : (before : ℕ) (factor : KeptFactor) (factors : List KeptFactor)
-    → least_behind None before (factor ∷ factors) ≡ lesser (repeat_number before factor) (least_behind None factor.pair factors)
-least_behind-next before factor factors = least_behind-from (repeat_number before factor) factor.pair factors
+    → least_behind None before (factor ∷ factors) ≡ lesser (repeat_number before factor) (least_behind None (pair_of factor) factors)
+least_behind-next before factor factors = least_behind-from (repeat_number before factor) (pair_of factor) factors
 
 -- the lesser of two is one of them
 lesser-is : (a b : Option ℕ) (n : ℕ) → lesser a b ≡ Some n → (a ≡ Some n) ⊎ (b ≡ Some n)
@@ -97,11 +97,11 @@ lesser-second None b = (b, refl, omega arith)
 lesser-second (Some a) b = (min a b, refl, omega arith)
 
 -- a factor that has the cells of the one before it
-repeat_number-is : (before : ℕ) (factor : KeptFactor) (n : ℕ) → repeat_number before factor ≡ Some n → (factor.pair ≡ before) × (factor.number ≡ n)
+repeat_number-is : (before : ℕ) (factor : KeptFactor) (n : ℕ) → repeat_number before factor ≡ Some n → (pair_of factor ≡ before) × (factor.number ≡ n)
 repeat_number-is before factor n is =
-    elim (cases_eq factor.pair before) [
-      | inl same ↦ let e = rw (eq-eqb factor.pair before same) at is in let number : factor.number ≡ n = cc in (same, number)
-      | inr other ↦ let e = rw (ne_eqb factor.pair before other) at is in absurd (cc)
+    elim (cases_eq (pair_of factor) before) [
+      | inl same ↦ let e = rw (eq-eqb (pair_of factor) before same) at is in let number : factor.number ≡ n = cc in (same, number)
+      | inr other ↦ let e = rw (ne_eqb (pair_of factor) before other) at is in absurd (cc)
     ]
 
 -- one member more in front
@@ -110,7 +110,7 @@ IsRepeat-more first factors a b repeat = record { earlier = inr repeat.earlier; 
 
 -- the least behind a factor, among it and those that climb from it
 least_behind-least : (first : KeptFactor) (factors : List KeptFactor) → first.number < 8388608 → Climbs (rank first) factors
-    → IsLeastRepeat (first ∷ factors) (least_behind None first.pair factors)
+    → IsLeastRepeat (first ∷ factors) (least_behind None (pair_of first) factors)
 unfolding Climbs
 least_behind-least first [] few up = record {
   found = λ n is. absurd (cc);
@@ -129,11 +129,11 @@ least_behind-least first [] few up = record {
     ]
 least_behind-least first (factor ∷ factors) few up =
     let rest = least_behind-least factor factors up.1 up.2 in
-    let next = least_behind-next first.pair factor factors in
+    let next = least_behind-next (pair_of first) factor factors in
     record {
-      found = λ n is. elim (lesser-is (repeat_number first.pair factor) (least_behind None factor.pair factors) n (sym next ∙ is)) [
+      found = λ n is. elim (lesser-is (repeat_number (pair_of first) factor) (least_behind None (pair_of factor) factors) n (sym next ∙ is)) [
         | inl here ↦
-            let (same, number) = repeat_number-is first.pair factor n here in
+            let (same, number) = repeat_number-is (pair_of first) factor n here in
             (first, factor, record { earlier = inl refl; later = inr (inl refl); same = sym same; before = omega (arith, up.0, same) }, number)
         | inr there ↦
             let (a, b, repeat, number) = rest.found n there in
@@ -147,23 +147,23 @@ least_behind-least first (factor ∷ factors) few up =
           | inr there ↦
               let from : rank factor ≤ rank b = at_least b there in
               let (above, small) = Climbs-member (rank first) (factor ∷ factors) b (up.0, up.1, up.2) there in
-              let pair : a.pair ≡ first.pair = ap (λ (f : KeptFactor). f.pair) one in
-              let same : factor.pair ≡ first.pair = omega (arith, from, small, pair, repeat.same, up.0, up.1) in
+              let pair : pair_of a ≡ pair_of first = ap (λ (f : KeptFactor). pair_of f) one in
+              let same : pair_of factor ≡ pair_of first = omega (arith, from, small, pair, repeat.same, up.0, up.1) in
               let number : factor.number ≤ b.number = omega (arith, from, small, pair, repeat.same, same) in
-              let (n, is, less) = lesser-first factor.number (least_behind None factor.pair factors) in
-              let repeats : repeat_number first.pair factor ≡ Some factor.number = rw (eq-eqb factor.pair first.pair same) refl in
-              (n, next ∙ ap (λ r. lesser r (least_behind None factor.pair factors)) repeats ∙ is, omega (arith, less, number))
+              let (n, is, less) = lesser-first factor.number (least_behind None (pair_of factor) factors) in
+              let repeats : repeat_number (pair_of first) factor ≡ Some factor.number = rw (eq-eqb (pair_of factor) (pair_of first) same) refl in
+              (n, next ∙ ap (λ r. lesser r (least_behind None (pair_of factor) factors)) repeats ∙ is, omega (arith, less, number))
         ]
         | inr there ↦ elim repeat.later [
           | inl other ↦
               let (above, small) = Climbs-member (rank first) (factor ∷ factors) a (up.0, up.1, up.2) there in
-              let pair : b.pair ≡ first.pair = ap (λ (f : KeptFactor). f.pair) other in
+              let pair : pair_of b ≡ pair_of first = ap (λ (f : KeptFactor). pair_of f) other in
               let number : b.number ≡ first.number = ap (λ (f : KeptFactor). f.number) other in
               absurd (omega (arith, above, repeat.before, repeat.same, pair, number))
           | inr later ↦
               let (m, is, less) = rest.least_of a b (record { earlier = there; later = later; same = repeat.same; before = repeat.before }) in
-              let (n, both, under) = lesser-second (repeat_number first.pair factor) m in
-              (n, next ∙ ap (lesser (repeat_number first.pair factor)) is ∙ both, omega (arith, less, under))
+              let (n, both, under) = lesser-second (repeat_number (pair_of first) factor) m in
+              (n, next ∙ ap (lesser (repeat_number (pair_of first) factor)) is ∙ both, omega (arith, less, under))
         ]
       ];
     }

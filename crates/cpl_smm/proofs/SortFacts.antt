@@ -1,5 +1,5 @@
 -- Factors of a file, sorted by their cells.
-use Rattle.std.proofs.Common.{◌≡◌, ◌∙◌, ℕ, zero, suc, ◌+◌, ◌<◌, ◌≤◌, ◌==◌, Bool, false, List, [], ◌∷◌, length, get_or, None, Some, refl, sym, ap, subst, inl, inr, arith, add-one}
+use Rattle.std.proofs.Common.{◌≡◌, ◌∙◌, ℕ, zero, suc, ◌+◌, ◌<◌, ◌≤◌, ◌==◌, Bool, false, List, [], ◌∷◌, length, get_or, Option, None, Some, refl, sym, ap, subst, inl, inr, arith, add-one}
 use Rattle.std.proofs.lemmas.Bool.{cases_eq, cases_lt, eq-eqb, ne_eqb, false≢true}
 use Rattle.std.proofs.lemmas.List.Sorted.{IsPermutation-sym, length_permutation, ties_still_rise}
 use Rattle.std.proofs.lemmas.Map.Keys.{IsDistinct-IsPermutation, IsDistinct-cons, IsDistinct-from_apart, IsDistinct-head, IsDistinct-tail}
@@ -8,12 +8,13 @@ use Rattle.std.specs.List.{AllByRecursion, IsDistinct}
 use Rattle.std.specs.List.Sorted.{IsNonDecreasingBy, IsPermutation, IsSortedByKey, IsStableByKey}
 use Rattle.std.specs.Ordering.{is_lt, nat_cmp}
 use Rattle.std.specs.declared.cmp.Ordering.TheVariants.{Greater}
-use Rattle.cpl_smm.specs.Kept.{Ascends, AreSorted, IsRanged, kept_factor, kept_from, least_repeat, pair_number}
+use Rattle.cpl_smm.specs.Kept.{Ascends, AreSorted, IsRanged, kept_factor, kept_from, least_repeat, pair_of}
 use Rattle.cpl_smm.specs.Records.{Factor, IsWeight, most_records}
 use Rattle.cpl_smm.specs.declared.entries.KeptFactor.{KeptFactor}
 use Rattle.cpl_smm.proofs.JudgedFacts.{IsFactor, kept_from-number, repeat-least, repeat_behind}
 use Rattle.cpl_smm.proofs.MemberFacts.{All-from_in, IsIn, is_in-permutation}
-use Rattle.cpl_smm.proofs.RepeatFacts.{Climbs, Climbs-member, IsLeastRepeat-same, IsRepeat, least_repeat-least, rank}
+use Rattle.cpl_smm.proofs.OrderFacts.{Ascends-unique}
+use Rattle.cpl_smm.proofs.RepeatFacts.{Climbs, Climbs-member, IsLeastRepeat, IsLeastRepeat-same, IsRepeat, least_repeat-least, rank}
 use Rattle.cpl_smm.proofs.RowFacts.{sorted-of}
 
 -- two factors have one number
@@ -57,7 +58,7 @@ kept_from-sorted n factors = λ k d from few.
 
 -- the next factor has no lesser pair, and no lesser number where the pairs are equal
 abbrev NotBelow : KeptFactor → KeptFactor → Type 0
-NotBelow a b = (a.pair ≤ b.pair) × (a.pair ≡ b.pair → a.number ≤ b.number)
+NotBelow a b = (pair_of a ≤ pair_of b) × (pair_of a ≡ pair_of b → a.number ≤ b.number)
 
 -- what holds of all holds of the first
 first-of : (P : KeptFactor → Type 0) (factors : List KeptFactor) (d : KeptFactor) → 0 < length factors → AllByRecursion P factors → P (get_or factors 0 d)
@@ -78,7 +79,7 @@ climbs-from low (factor ∷ factors) first few distinct next = (
       let (pair, number) = next 0 d (omega (arith, some)) in
       let other = first-of (λ k. same_number factor k ≡ false) factors d some (IsDistinct-head same_number factor factors distinct) in
       let differ : factor.number ≡ (get_or factors 0 d).number → ⊥ = λ e. false≢true (sym other ∙ eq-eqb factor.number (get_or factors 0 d).number e) in
-      elim (cases_eq factor.pair (get_or factors 0 d).pair) [
+      elim (cases_eq (pair_of factor) (pair_of (get_or factors 0 d))) [
         | inl same ↦ let less = number same in omega (arith, same, less, differ)
         | inr more ↦ let small = few factor (inl refl) in omega (arith, pair, more, small)
       ])
@@ -88,8 +89,8 @@ climbs-from low (factor ∷ factors) first few distinct next = (
 -- what the sort of a file's factors gives
 pub record IsSortOf (factors : List Factor) (sorted : List KeptFactor) : Type 0 where
   pub moved : IsPermutation (kept_from 1 factors) sorted
-  pub pairs : IsNonDecreasingBy (λ (k : KeptFactor). k.pair) sorted
-  pub stable : IsStableByKey (λ (k : KeptFactor). k.pair) nat_cmp (kept_from 1 factors) sorted
+  pub pairs : IsNonDecreasingBy (λ (k : KeptFactor). pair_of k) sorted
+  pub stable : IsStableByKey (λ (k : KeptFactor). pair_of k) nat_cmp (kept_from 1 factors) sorted
 
 -- A file's factors: of so many cells, and not too many.
 pub record AreFactors (src_cells dst_cells : ℕ) (factors : List Factor) : Type 0 where
@@ -126,23 +127,26 @@ sorted-climbs src_cells dst_cells factors sorted ranged sort =
     let next : k + 1 < length sorted = omega (arith, more) in
     subst P (add-one k) (
       sort.pairs k (k + 1) d (omega arith) next,
-      ties_still_rise (λ (k : KeptFactor). k.number) (λ (k : KeptFactor). k.pair) (kept_from 1 factors) sorted (kept_from-sorted 1 factors) sort.stable k d next,
+      ties_still_rise (λ (k : KeptFactor). k.number) (λ (k : KeptFactor). pair_of k) (kept_from 1 factors) sorted (kept_from-sorted 1 factors) sort.stable k d next,
     ))
 
 -- factors that climb ascend, where none has the cells of an earlier one
-climbs-ascend : (low high : ℕ) (factors : List KeptFactor) → Climbs low factors → ((k : KeptFactor) → IsIn k factors → high < k.pair)
+climbs-ascend : (low high : ℕ) (factors : List KeptFactor) → Climbs low factors → ((k : KeptFactor) → IsIn k factors → high < pair_of k)
+    → ((k : KeptFactor) → IsIn k factors → k.src < 4294967296)
     → ((a b : KeptFactor) → IsRepeat factors a b → ⊥) → Ascends high factors
 unfolding Climbs Ascends
-climbs-ascend low high [] up above unique = tt
-climbs-ascend low high (factor ∷ factors) up above unique = (
+climbs-ascend low high [] up above narrow unique = tt
+climbs-ascend low high (factor ∷ factors) up above narrow unique = (
   above factor (inl refl),
-  climbs-ascend (rank factor) factor.pair factors up.2
+  narrow factor (inl refl),
+  climbs-ascend (rank factor) (pair_of factor) factors up.2
       (λ k there.
       let (more, few) = Climbs-member (rank factor) factors k up.2 there in
-      elim (cases_lt factor.pair k.pair) [
+      elim (cases_lt (pair_of factor) (pair_of k)) [
         | inl less ↦ less
         | inr same ↦ absurd (unique factor k (record { earlier = inl refl; later = inr there; same = omega (arith, more, few, same); before = omega (arith, more, few, same) }))
       ])
+      (λ k there. narrow k (inr there))
       (λ a b repeat. unique a b (record { earlier = inr repeat.earlier; later = inr repeat.later; same = repeat.same; before = repeat.before })),
 )
 
@@ -156,30 +160,58 @@ least_repeat-file src_cells dst_cells factors sorted ranged sort =
     (least_repeat-least 0 sorted (sorted-climbs src_cells dst_cells factors sorted ranged sort))
     (repeat-least factors (λ x here. let factor = ranged.each x here in let cells = ranged.cells in let within = factor.src_within in omega (arith, within, cells)))
 
+-- factors of a file are in range, in whatever order
+pub kept-ranged : (src_cells dst_cells : ℕ) (factors : List Factor) (kept : List KeptFactor) → AreFactors src_cells dst_cells factors
+    → IsPermutation (kept_from 1 factors) kept → (k : KeptFactor) → IsIn k kept → IsRanged src_cells k
+kept-ranged src_cells dst_cells factors kept ranged moved k here =
+    let (x, there, is) = sorted-of factors kept k moved here in
+    let factor = ranged.each x there in
+    let from = factor.src_from in
+    let to = factor.src_within in
+    let source : k.src ≡ x.src = ap (λ (k : KeptFactor). k.src) is in
+    let weight : x.weight ≡ k.weight = sym (ap (λ (k : KeptFactor). k.weight) is) in
+    let P : _ → Type 0 = λ w. IsWeight w in
+    record {
+      from_one = omega (arith, source, from);
+      within = omega (arith, source, to);
+      weight = subst P weight factor.weight;
+    }
+
+-- factors of a file that ascend are sorted
+pub kept-sorted : (src_cells dst_cells : ℕ) (factors : List Factor) (kept : List KeptFactor) → AreFactors src_cells dst_cells factors
+    → IsPermutation (kept_from 1 factors) kept → Ascends 0 kept → AreSorted src_cells kept
+kept-sorted src_cells dst_cells factors kept ranged moved up = record {
+  ascend = up;
+  ranged = All-from_in (IsRanged src_cells) kept (kept-ranged src_cells dst_cells factors kept ranged moved);
+  few = let count = length_permutation (kept_from 1 factors) kept moved in let few = ranged.few in let all = length-kept 1 factors in omega (arith, count, few, all);
+}
+
 -- sorted factors without a repeat
 pub sorted-ascends : (src_cells dst_cells : ℕ) (factors : List Factor) (sorted : List KeptFactor) → AreFactors src_cells dst_cells factors → IsSortOf factors sorted
-    → least_repeat sorted ≡ None → AreSorted src_cells sorted
+    → least_repeat sorted ≡ None → Ascends 0 sorted
 sorted-ascends src_cells dst_cells factors sorted ranged sort none =
     let climbs = sorted-climbs src_cells dst_cells factors sorted ranged sort in
     let least = least_repeat-least 0 sorted climbs in
     let cells = ranged.cells in
-    let pair : (k : KeptFactor) → IsIn k sorted → IsRanged src_cells k = λ k here.
-    let (x, there, is) = sorted-of factors sorted k sort.moved here in
-    let factor = ranged.each x there in
-    let from = factor.src_from in
-    let to = factor.src_within in
-    let same : k.pair ≡ pair_number x.dst x.src = ap (λ (k : KeptFactor). k.pair) is in
-    let weight : x.weight ≡ k.weight = sym (ap (λ (k : KeptFactor). k.weight) is) in
-    let P : _ → Type 0 = λ w. IsWeight w in
-    record {
-      from_one = omega (arith, same, from, to, cells);
-      within = omega (arith, same, from, to, cells);
-      weight = subst P weight factor.weight;
-    } in
-    record {
-      ascend = climbs-ascend 0 0 sorted climbs
-          (λ k here. let ranged_here = pair k here in let from = ranged_here.from_one in omega (arith, from))
-          (λ a b repeat. let (n, is, less) = least.least_of a b repeat in let both : None ≡ Some n = sym none ∙ is in absurd (cc));
-      ranged = All-from_in (IsRanged src_cells) sorted pair;
-      few = let count = length_permutation (kept_from 1 factors) sorted sort.moved in let few = ranged.few in let kept = length-kept 1 factors in omega (arith, count, few, kept);
-    }
+    let each = kept-ranged src_cells dst_cells factors sorted ranged sort.moved in
+    climbs-ascend 0 0 sorted climbs
+    (λ k here. let ranged_here = each k here in let from = ranged_here.from_one in omega (arith, from))
+    (λ k here. let ranged_here = each k here in let within = ranged_here.within in omega (arith, within, cells))
+    (λ a b repeat. let (n, is, less) = least.least_of a b repeat in let both : None ≡ Some n = sym none ∙ is in absurd (cc))
+
+-- factors of a file that ascend in some order have no repeat
+pub kept-once : (src_cells dst_cells : ℕ) (factors : List Factor) (kept : List KeptFactor) → AreFactors src_cells dst_cells factors
+    → IsPermutation (kept_from 1 factors) kept → Ascends 0 kept → repeat_behind [] factors ≡ None
+kept-once src_cells dst_cells factors kept ranged moved up = by (repeat_behind [] factors) refl
+  where
+    least : IsLeastRepeat (kept_from 1 factors) (repeat_behind [] factors)
+    least = repeat-least factors (λ x here. let factor = ranged.each x here in let cells = ranged.cells in let within = factor.src_within in omega (arith, within, cells))
+
+    by : (r : Option ℕ) → repeat_behind [] factors ≡ r → r ≡ None
+    by None is = refl
+    by (Some n) is =
+        let (a, b, repeat, number) = least.found n is in
+        let one = Ascends-unique 0 kept a b up (is_in-permutation (kept_from 1 factors) kept a moved repeat.earlier)
+        (is_in-permutation (kept_from 1 factors) kept b moved repeat.later) repeat.same in
+        let same : a.number ≡ b.number = ap (λ (k : KeptFactor). k.number) one in
+        absurd (omega (arith, repeat.before, same))

@@ -1,5 +1,5 @@
 -- The code's own: factors as they are kept while a file is read, what the reader has still to give, and how rows are kept.
-use Rattle.std.specs.Prelude.{◌≡◌, ℕ, ◌+◌, ◌-◌, ◌*◌, ◌/◌, ◌%◌, ◌<◌, ◌≤◌, nat_le, filter, suc, Bool, ◌==◌, if◌then◌else◌, min, List, [], ◌∷◌, All, map, length, take, drop, slice_index, slice_index_or, Option, Some, None, Result, Ok, Err, true, false}
+use Rattle.std.specs.Prelude.{◌≡◌, ℕ, ◌+◌, ◌-◌, ◌*◌, ◌<◌, ◌≤◌, nat_le, nat_lt, ◌&&◌, filter, suc, Bool, ◌==◌, if◌then◌else◌, min, List, [], ◌∷◌, All, map, length, take, drop, slice_index, slice_index_or, Option, Some, None, Result, Ok, Err, true, false}
 use Rattle.std.specs.Borrow.{Bor}
 use Rattle.std.specs.List.{range_with_len}
 use Rattle.csv.specs.Reading.{Ready, default_config, reader_config, reader_state, reader_trim, records_from, source_of}
@@ -17,9 +17,13 @@ use Rattle.cpl_smm.specs.declared.weights.Weights.TheInside.{Inside}
 abbrev pub pair_number : ℕ → ℕ → ℕ
 pair_number dst src = dst * 4294967296 + src
 
+-- that number of a factor
+abbrev pub pair_of : KeptFactor → ℕ
+pair_of factor = pair_number factor.dst factor.src
+
 -- a factor with the number of its record
 abbrev pub kept_factor : ℕ → Factor → KeptFactor
-kept_factor n factor = record { pair = pair_number factor.dst factor.src; weight = factor.weight; number = n }
+kept_factor n factor = record { dst = factor.dst; src = factor.src; weight = factor.weight; number = n }
 
 -- the same of what a record says
 abbrev pub kept_answer : ℕ → Result Factor WeightFault → Result KeptFactor WeightFault
@@ -30,6 +34,20 @@ kept_answer n (Err fault) = Err fault
 abbrev pub kept_from : ℕ → List Factor → List KeptFactor
 kept_from n [] = []
 kept_from n (factor ∷ factors) = kept_factor n factor ∷ kept_from (n + 1) factors
+
+-- factors whose destination cells stand in one list and their source cells and weights in another, of records that follow one another from this number on
+abbrev pub numbered : ℕ → List ℕ → List Entry → List KeptFactor
+numbered n [] entries = []
+numbered n (dst ∷ dsts) [] = []
+numbered n (dst ∷ dsts) (entry ∷ entries) =
+    record { dst = dst; src = entry.0; weight = entry.1; number = n } ∷ numbered (n + 1) dsts entries
+
+-- the numbers of pairs ascend, from above this one
+abbrev pub ascend_from : ℕ → List ℕ → List Entry → Bool
+ascend_from low [] entries = true
+ascend_from low (dst ∷ dsts) [] = true
+ascend_from low (dst ∷ dsts) (entry ∷ entries) =
+    nat_lt low (pair_number dst entry.0) && ascend_from (pair_number dst entry.0) dsts entries
 
 -- ---- reading
 
@@ -93,27 +111,27 @@ lesser (Some a) (Some b) = Some (min a b)
 
 -- the number of a factor that has the cells of the one before it
 abbrev pub repeat_number : ℕ → KeptFactor → Option ℕ
-repeat_number before factor = if factor.pair == before then Some factor.number else None
+repeat_number before factor = if pair_of factor == before then Some factor.number else None
 
 -- the least of a number and those of factors that have the cells of the one before them
 abbrev pub least_behind : Option ℕ → ℕ → List KeptFactor → Option ℕ
 least_behind least before [] = least
-least_behind least before (factor ∷ factors) = least_behind (lesser least (repeat_number before factor)) factor.pair factors
+least_behind least before (factor ∷ factors) = least_behind (lesser least (repeat_number before factor)) (pair_of factor) factors
 
 -- the least number of a factor that has the cells of the one before it
 abbrev pub least_repeat : List KeptFactor → Option ℕ
 least_repeat [] = None
-least_repeat (factor ∷ factors) = least_behind None factor.pair factors
+least_repeat (factor ∷ factors) = least_behind None (pair_of factor) factors
 
 -- ---- rows
 
 -- the destination cell of a factor
 abbrev pub dst_of : KeptFactor → ℕ
-dst_of factor = factor.pair / 4294967296
+dst_of factor = factor.dst
 
 -- the source cell of a factor
 abbrev pub src_of : KeptFactor → ℕ
-src_of factor = factor.pair % 4294967296
+src_of factor = factor.src
 
 -- the source cell and the weight of a factor
 abbrev pub entry_of : KeptFactor → Entry
@@ -123,19 +141,15 @@ entry_of factor = (src_of factor, factor.weight)
 abbrev pub is_dst : ℕ → KeptFactor → Bool
 is_dst dst factor = dst_of factor == dst
 
--- the destination cell of a factor is at most this
-abbrev pub is_upto : ℕ → KeptFactor → Bool
-is_upto dst factor = nat_le (dst_of factor) dst
-
--- how many of the first factors have at most this destination cell
-abbrev pub count_upto : ℕ → List KeptFactor → ℕ
+-- how many of the first cells are at most this one
+abbrev pub count_upto : ℕ → List ℕ → ℕ
 count_upto dst [] = 0
-count_upto dst (factor ∷ factors) = if is_upto dst factor then suc (count_upto dst factors) else 0
+count_upto dst (cell ∷ cells) = if nat_le cell dst then suc (count_upto dst cells) else 0
 
--- the numbers of pairs ascend, from above this one
+-- the numbers of pairs ascend, from above this one, and source cells are below 2^32
 unfoldable pub Ascends : ℕ → List KeptFactor → Type 0
 Ascends low [] = Unit {0}
-Ascends low (factor ∷ factors) = (low < factor.pair) × Ascends factor.pair factors
+Ascends low (factor ∷ factors) = (low < pair_of factor) × (factor.src < 4294967296) × Ascends (pair_of factor) factors
 
 -- a factor's source cell is one of so many, and its weight is in range
 pub record IsRanged (src_cells : ℕ) (factor : KeptFactor) : Type 0 where
@@ -160,6 +174,11 @@ sorted_table src_cells dst_cells factors = record {
   records = length factors;
   rows = map (row_in factors) (range_with_len 1 dst_cells);
 }
+
+-- a fault, or a table
+abbrev pub table_or : Option WeightFault → Table → Result Table WeightFault
+table_or (Some fault) table = Err fault
+table_or None table = Ok table
 
 -- the entries from one start to the next
 abbrev pub row_between : List ℕ → List Entry → ℕ → List Entry

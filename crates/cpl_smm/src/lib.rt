@@ -2,6 +2,7 @@
 //! a row makes of source values.
 #![tactic(auto)]
 
+mod columns;
 mod entries;
 mod examples;
 mod fault;

@@ -1,19 +1,17 @@
 //! A file of weights: its records are read, sorted by their cells, and kept row by row.
 
-ghost use Rattle.std.specs.Prelude.{◌≡◌, IfOk, IfErr, OnOk};
-ghost use Rattle.std.specs.List.Sorted.{IsNonDecreasingBy, IsPermutation, IsStableByKey};
-ghost use Rattle.std.specs.Ordering.{nat_cmp};
+ghost use Rattle.std.specs.Prelude.{◌≡◌, IfOk, IfErr, length, map};
 ghost use Rattle.cpl_base.specs.Gives.{Gives};
 ghost use Rattle.csv.specs.Records.{fields_of};
 ghost use Rattle.cpl_smm.specs.Files.{records_of, weights_of};
-ghost use Rattle.cpl_smm.specs.Kept.{IsReading, ReadsOn, judged_of, kept_from, records_left};
+ghost use Rattle.cpl_smm.specs.Kept.{AreSorted, IsReading, ReadsOn, dst_of, entry_of, judged_of, kept_from, numbered, records_left, sorted_table, table_or};
 ghost use Rattle.cpl_smm.specs.declared.fault.WeightFault.{WeightFault};
 
-use crate::entries::{KeptFactor, least_repeat};
+use crate::columns::{Columns, are_ascending, refilled};
+use crate::entries::{least_repeat, numbered, sort_factors};
 use crate::fault::WeightFault;
 use crate::records::{MOST_RECORDS, kept_factor};
 use crate::weights::Weights;
-use cpl_base::Memory;
 use csv::{ByteRecord, Reader, ReaderBuilder};
 use std::alloc::Global;
 
@@ -41,34 +39,45 @@ pub fn read_weights(
     ensures answer { Gives WeightFault.Memory (λ weights. weights) result (weights_of src_cells dst_cells bytes.now) }
 {
     let reading = read_factors(alloc, bytes, src_cells, dst_cells)?;
-    let Reading { mut factors, fault } = reading;
+    let Reading { columns, fault } = reading;
+    if are_ascending(columns.dsts.as_slice(), columns.entries.as_slice()) {
+        return weights_or(alloc, src_cells, dst_cells, columns, fault);
+    }
+    let mut factors = numbered(alloc, columns.dsts.as_slice(), columns.entries.as_slice())?;
     sort_factors(&mut factors)?;
     if let Some(n) = least_repeat(factors.as_slice()) {
         return Err(WeightFault::PairTwice { n });
     }
+    let sorted = refilled(columns, factors.as_slice())?;
+    weights_or(alloc, src_cells, dst_cells, sorted, fault)
+}
+
+/// A fault, or where there is none the weights of factors that are sorted by their cells.
+fn weights_or(
+    alloc: Global,
+    src_cells: u32,
+    dst_cells: u32,
+    columns: Columns,
+    fault: Option<WeightFault>,
+) -> Result<Weights, WeightFault>
+    requires sizes { length columns.dsts.items ≡ length columns.entries.items }
+    requires sorted { AreSorted src_cells (numbered 1 columns.dsts.items columns.entries.items) }
+    ensures { Gives WeightFault.Memory (λ weights. weights) result
+        (table_or fault (sorted_table src_cells dst_cells (numbered 1 columns.dsts.items columns.entries.items))) }
+{
     match fault {
         Some(fault) => Err(fault),
         None => {
-            let weights = Weights::of(alloc, src_cells, dst_cells, factors.as_slice())?;
+            let weights = Weights::of(alloc, src_cells, dst_cells, columns)?;
             Ok(weights)
         }
     }
 }
 
-/// Sorts factors by their cells; those of equal cells stay in their order.
-fn sort_factors(factors: &mut Vec<KeptFactor>) -> Result<(), Memory>
-    ensures moved { IsPermutation factors.old.items factors.new.items }
-    ensures sorted { OnOk result (IsNonDecreasingBy (λ factor. factor.pair) factors.new.items) }
-    ensures stable { IsStableByKey (λ factor. factor.pair) nat_cmp factors.old.items factors.new.items }
-{
-    factors.sort_by_key(|factor| factor.pair)?;
-    Ok(())
-}
-
 /// The factors of the records up to the first that is faulty by itself, and its fault.
 #[derive(Drop)]
 struct Reading {
-    factors: Vec<KeptFactor>,
+    columns: Columns,
     fault: Option<WeightFault>,
 }
 
@@ -79,34 +88,40 @@ fn read_factors(
     src_cells: u32,
     dst_cells: u32,
 ) -> Result<Reading, WeightFault>
-    ensures factors { IfOk result (λ reading. reading.factors.items ≡ kept_from 1 (judged_of src_cells dst_cells bytes.now).factors) }
+    ensures dsts { IfOk result (λ reading. reading.columns.dsts.items ≡ map dst_of (kept_from 1 (judged_of src_cells dst_cells bytes.now).factors)) }
+    ensures entries { IfOk result (λ reading. reading.columns.entries.items ≡ map entry_of (kept_from 1 (judged_of src_cells dst_cells bytes.now).factors)) }
     ensures fault { IfOk result (λ reading. reading.fault ≡ (judged_of src_cells dst_cells bytes.now).fault) }
     ensures err { IfErr result (λ fault. fault ≡ WeightFault.Memory) }
 {
     let mut reader = reader(alloc, bytes);
     let mut record = ByteRecord::new(alloc);
-    let mut factors = Vec::new(alloc);
+    let mut dsts = Vec::new(alloc);
+    let mut entries = Vec::new(alloc);
     for number in 1..MOST_RECORDS + 2 {
         if !reads_on(&mut reader, &mut record)? {
-            return Ok(Reading {
-                factors,
-                fault: None,
-            });
+            return Ok(read(dsts, entries, None));
         }
         match kept_factor(src_cells, dst_cells, number, &record) {
-            Ok(factor) => factors.push(factor)?,
-            Err(fault) => {
-                return Ok(Reading {
-                    factors,
-                    fault: Some(fault),
-                });
+            Ok(factor) => {
+                dsts.push(factor.dst)?;
+                entries.push(factor.entry())?;
             }
+            Err(fault) => return Ok(read(dsts, entries, Some(fault))),
         }
     }
-    Ok(Reading {
-        factors,
-        fault: None,
-    })
+    Ok(read(dsts, entries, None))
+}
+
+/// What was read.
+fn read(dsts: Vec<u32>, entries: Vec<(u32, i64)>, fault: Option<WeightFault>) -> Reading
+    ensures dsts { result.columns.dsts ≡ dsts }
+    ensures entries { result.columns.entries ≡ entries }
+    ensures fault { result.fault ≡ fault }
+{
+    Reading {
+        columns: Columns { dsts, entries },
+        fault,
+    }
 }
 
 /// A reader of all records, of whatever length.

@@ -13,9 +13,6 @@ use csv::ByteRecord;
 /// A file has so many records at most.
 pub(crate) const MOST_RECORDS: u64 = 4_194_304;
 
-/// So many source cells there may be, and one more.
-pub(crate) const WIDE: u64 = 0x1_0000_0000;
-
 /// Two numbers, and a weight if it is in range.
 #[derive(Clone, Copy)]
 pub(crate) struct Fields {
@@ -48,7 +45,8 @@ pub(crate) fn kept_factor(
     }
     match fields.weight {
         Some(weight) => Ok(KeptFactor {
-            pair: fields.dst * WIDE + fields.src,
+            dst: fields.dst as u32,
+            src: fields.src as u32,
             weight,
             number: n,
         }),

@@ -1,57 +1,40 @@
-//! What is kept of sorted factors: where each row begins, and the entries of all rows.
+//! Where the rows of sorted factors begin, and a row.
 
 ghost use Rattle.std.specs.Prelude.{◌≡◌, ◌+◌, ◌<◌, ◌≤◌, IfOk, drop, length, map, slice_index};
 ghost use Rattle.std.specs.List.{range_with_len};
-ghost use Rattle.cpl_smm.specs.Kept.{count_upto, entry_of, row_between};
+ghost use Rattle.cpl_smm.specs.Kept.{count_upto, row_between};
 ghost use Rattle.cpl_smm.specs.Records.{most_records};
 
-use crate::entries::KeptFactor;
-use crate::records::WIDE;
 use cpl_base::Memory;
 use std::alloc::Global;
 
-/// How many factors have at most each destination cell, from 0 on: where the row of the next cell begins. Takes
-/// time in the cells and the factors.
-pub(crate) fn starts_of(
-    alloc: Global,
-    factors: &[KeptFactor],
-    dst_cells: u32,
-) -> Result<Vec<u32>, Memory>
-    requires { length factors.now ≤ most_records }
-    ensures { IfOk result (λ starts. starts.items ≡ map (λ dst. count_upto dst factors.now) (range_with_len 0 (dst_cells + 1))) }
+/// How many factors have at most each destination cell, from 0 on: where the row of the next cell begins. The
+/// factors' destination cells ascend. Takes time in the cells and the factors.
+pub(crate) fn starts_of(alloc: Global, dsts: &[u32], dst_cells: u32) -> Result<Vec<u32>, Memory>
+    requires { length dsts.now ≤ most_records }
+    ensures { IfOk result (λ starts. starts.items ≡ map (λ dst. count_upto dst dsts.now) (range_with_len 0 (dst_cells + 1))) }
 {
     let mut starts = Vec::with_capacity(alloc, dst_cells as usize + 1)?;
     let mut place = 0;
     for dst in 0..u64::from(dst_cells) + 1 {
-        place = past(factors, place, dst);
+        place = past(dsts, place, dst);
         starts.push(place as u32)?;
     }
     Ok(starts)
 }
 
 /// The first place from this one on at which the destination cell isn't at most this.
-fn past(factors: &[KeptFactor], from: usize, dst: u64) -> usize
-    requires { from ≤ length factors.now }
-    ensures value { result ≡ from + count_upto dst (drop from factors.now) }
-    ensures within { result ≤ length factors.now }
+fn past(dsts: &[u32], from: usize, dst: u64) -> usize
+    requires { from ≤ length dsts.now }
+    ensures value { result ≡ from + count_upto dst (drop from dsts.now) }
+    ensures within { result ≤ length dsts.now }
 {
-    for place in from..factors.len() {
-        if factors[place].pair / WIDE > dst {
+    for place in from..dsts.len() {
+        if u64::from(dsts[place]) > dst {
             return place;
         }
     }
-    factors.len()
-}
-
-/// The source cells and the weights of factors.
-pub(crate) fn entries_of(alloc: Global, factors: &[KeptFactor]) -> Result<Vec<(u32, i64)>, Memory>
-    ensures { IfOk result (λ entries. entries.items ≡ map entry_of factors.now) }
-{
-    let mut entries = Vec::with_capacity(alloc, factors.len())?;
-    for factor in factors {
-        entries.push(((factor.pair % WIDE) as u32, factor.weight))?;
-    }
-    Ok(entries)
+    dsts.len()
 }
 
 /// The entries from one start to the next.

@@ -1,8 +1,8 @@
 //! Weights, kept row by row.
 
-use crate::entries::KeptFactor;
+use crate::columns::Columns;
 use crate::marks::{mark_sources, marked_cells};
-use crate::rows::{entries_of, row_between, starts_of};
+use crate::rows::{row_between, starts_of};
 use cpl_base::{Many, Memory};
 use cpl_grid::Decomp;
 use cpl_route::Need;
@@ -43,24 +43,27 @@ impl Weights {
     ghost use Rattle.cpl_grid.specs.Grid.{cells_in};
     ghost use Rattle.cpl_grid.specs.Owners.{IsPet};
     ghost use Rattle.cpl_smm.specs.Needs.{need_of, needs_of};
-    ghost use Rattle.cpl_smm.specs.Kept.{AreSorted, sorted_table};
+    ghost use Rattle.cpl_smm.specs.Kept.{AreSorted, numbered, sorted_table};
     ghost use Rattle.cpl_smm.specs.Rows.{IsRow, row_at};
 
-    /// The weights of factors that are sorted by their cells.
+    /// The weights of factors that are sorted by their cells. Takes memory for where each row begins.
     pub(crate) fn of(
         alloc: Global,
         src_cells: u32,
         dst_cells: u32,
-        factors: &[KeptFactor],
+        columns: Columns,
     ) -> Result<Weights, Memory>
-        requires { AreSorted src_cells factors.now }
-        ensures { IfOk result (λ weights. weights ≡ sorted_table src_cells dst_cells factors.now) }
+        requires sizes { length columns.dsts.items ≡ length columns.entries.items }
+        requires sorted { AreSorted src_cells (numbered 1 columns.dsts.items columns.entries.items) }
+        ensures { IfOk result (λ weights. weights ≡ sorted_table src_cells dst_cells (numbered 1 columns.dsts.items columns.entries.items)) }
     {
+        let Columns { dsts, entries } = columns;
+        let starts = starts_of(alloc, dsts.as_slice(), dst_cells)?;
         Ok(Weights {
             src_cells,
             dst_cells,
-            starts: starts_of(alloc, factors, dst_cells)?,
-            entries: entries_of(alloc, factors)?,
+            starts,
+            entries,
         })
     }
 

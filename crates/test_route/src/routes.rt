@@ -7,7 +7,7 @@ ghost use Rattle.cpl_route.specs.Routes.{ArePetsDistinct, AreOffsets};
 use crate::plain::{Sent, over_all_pairs, plain_halo, plain_pick, plain_redist, told};
 use cpl_base::Many;
 use cpl_grid::{Decomp, Grid};
-use cpl_route::{Need, Route, RouteFault, are_ascending, route_examples};
+use cpl_route::{Need, Route, RouteFault, are_ascending, route_examples, route_laws};
 use std::alloc::Global;
 use std::process::Abort;
 use std::test::Fail;
@@ -132,6 +132,7 @@ fn three(first: Need, second: Need, third: Need) -> [Need; 3]
 fn worked_redistributions(rt: HostRuntime) -> Result<(), Fail> {
     let alloc = rt.alloc();
     route_examples();
+    route_laws();
     let five = divided(5, 1, false, 3, 1, 0)?;
     let on_two = divided(5, 1, false, 2, 1, 1)?;
     let route = Route::redist(alloc, &five, &on_two)?;

@@ -7,7 +7,7 @@ use std::test::Fail;
 
 /// Files over four source cells and three destination cells, and the three rows of each, which end in `/` and have
 /// sources with their weights in billionths; or the refusal.
-const CASES: [(&[u8], &[u8]); 96] = [
+const CASES: [(&[u8], &[u8]); 103] = [
     // rows, whatever the order of the records
     (
         b"1,1,0.333333333\n2,1,0.333333333\n3,1,0.333333333\n",
@@ -29,6 +29,20 @@ const CASES: [(&[u8], &[u8]); 96] = [
         b"1,3,1\n1,2,1\n1,1,1\n",
         b"1=1000000000 /1=1000000000 /1=1000000000 /",
     ),
+    // records in the order of their cells, and one that isn't
+    (
+        b"1,1,1\n3,1,-1\n2,2,0.5\n1,3,2\n4,3,0\n",
+        b"1=1000000000 3=-1000000000 /2=500000000 /1=2000000000 4=0 /",
+    ),
+    (b"4,1,1\n1,2,1\n", b"4=1000000000 /1=1000000000 //"),
+    (b"2,1,1\n1,3,1\n", b"2=1000000000 //1=1000000000 /"),
+    (
+        b"1,1,1\n1,2,1\n2,2,1\n2,1,1\n",
+        b"1=1000000000 2=1000000000 /1=1000000000 2=1000000000 //",
+    ),
+    (b"1,1,1\n2,1,1\n2,1,3\n3,2,1\n", b"twice 3"),
+    (b"1,1,1\n1,1,2\n2,2,1\n2,2,1\n", b"twice 2"),
+    (b"1,1,1\n2,2,1\n3,3,2000\n", b"weight 3"),
     (b"", b"///"),
     (b"\n", b"///"),
     (b"4,3,0\n", b"//4=0 /"),

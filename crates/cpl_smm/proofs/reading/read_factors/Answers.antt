@@ -1,7 +1,8 @@
-use Rattle.std.proofs.Common.{◌≡◌, ◌∙◌, ◌+◌, ◌++◌, ◌∷◌, [], List, Ok, ap, arith, append_assoc, sym}
+use Rattle.std.proofs.Common.{◌≡◌, ◌∙◌, ◌+◌, ◌++◌, ◌∷◌, [], List, Ok, ap, arith, append_assoc, map, sym}
 use Rattle.csv.specs.Records.{fields_of}
-use Rattle.cpl_smm.specs.Kept.{GaveRecord, judged_from, kept_answer, kept_from, records_left}
+use Rattle.cpl_smm.specs.Kept.{GaveRecord, dst_of, entry_of, judged_from, kept_answer, kept_from, records_left}
 use Rattle.cpl_smm.specs.Records.{record_factor}
+use Rattle.cpl_smm.specs.Rows.{Entry}
 use Rattle.cpl_smm.specs.declared.entries.KeptFactor.{KeptFactor}
 use Rattle.cpl_smm.proofs.JudgedFacts.{kept_answer-ok, record_factor-ok, step-factors, step-fault}
 use Rattle.cpl_smm.proofs.reading.read_factors.Goals as goal
@@ -9,9 +10,12 @@ use Rattle.cpl_smm.proofs.reading.read_factors.Goals as goal
 pub loop-number-init : goal.loop-number-init
 loop-number-init c = record {
   reading = c.reader-reader.ensures.reading;
-  factors =
-      ap (λ (ks : List KeptFactor). ks ++ kept_from 1 (judged_from c.args.src_cells c.args.dst_cells 1 (records_left c.reader-reader.result)).factors) c.new-factors.ensures.items
-      ∙ ap (λ left. kept_from 1 (judged_from c.args.src_cells c.args.dst_cells 1 left).factors) c.reader-reader.ensures.left;
+  dsts =
+      ap (λ ds. ds ++ map dst_of (kept_from 1 (judged_from c.args.src_cells c.args.dst_cells 1 (records_left c.reader-reader.result)).factors)) c.new-dsts.ensures.items
+      ∙ ap (λ left. map dst_of (kept_from 1 (judged_from c.args.src_cells c.args.dst_cells 1 left).factors)) c.reader-reader.ensures.left;
+  entries =
+      ap (λ (es : List Entry). es ++ map entry_of (kept_from 1 (judged_from c.args.src_cells c.args.dst_cells 1 (records_left c.reader-reader.result)).factors)) c.new-entries.ensures.items
+      ∙ ap (λ left. map entry_of (kept_from 1 (judged_from c.args.src_cells c.args.dst_cells 1 left).factors)) c.reader-reader.ensures.left;
   few = omega arith;
   fault = ap (λ left. (judged_from c.args.src_cells c.args.dst_cells 1 left).fault) c.reader-reader.ensures.left;
 }
@@ -29,22 +33,23 @@ loop-number-preserved c =
     let gave : GaveRecord c.loop-number.reader c.reads_on.new.reader fields = rw c.if-not-branch.false at c.in_ok-reads_on.ensures.ok in
     let (factor, ok) = kept_answer-ok n r kept said in
     let within = (record_factor-ok src_cells dst_cells n fields factor ok).1 in
-    let so_far = c.loop-number.factors.items in
     let left = sym gave.left in
+    let next = sym (step-factors n r more kept said) in
     record {
       reading = gave.reading;
-      factors =
-          ap (λ (ks : List KeptFactor). ks ++ kept_from (n + 1) more.factors) c.in_ok-push-in-Ok.ensures.items
-          ∙ append_assoc so_far (kept ∷ []) (kept_from (n + 1) more.factors)
-          ∙ ap (λ (ks : List KeptFactor). so_far ++ ks) (sym (step-factors n r more kept said))
-          ∙ ap (λ left. so_far ++ kept_from n (judged_from src_cells dst_cells n left).factors) left
-          ∙ c.loop-number.invariant.factors;
+      dsts =
+          ap (λ ds. ds ++ map dst_of (kept_from (n + 1) more.factors)) c.in_ok-push-in-Ok.ensures.items
+          ∙ append_assoc c.loop-number.dsts.items (dst_of kept ∷ []) (map dst_of (kept_from (n + 1) more.factors))
+          ∙ ap (λ (ks : List KeptFactor). c.loop-number.dsts.items ++ map dst_of ks) next
+          ∙ ap (λ left. c.loop-number.dsts.items ++ map dst_of (kept_from n (judged_from src_cells dst_cells n left).factors)) left
+          ∙ c.loop-number.invariant.dsts;
+      entries =
+          ap (λ (es : List Entry). es ++ map entry_of (kept_from (n + 1) more.factors)) c.in_ok-push-in-Ok-2.ensures.items
+          ∙ ap (λ e. (c.loop-number.entries.items ++ e ∷ []) ++ map entry_of (kept_from (n + 1) more.factors)) c.entry.ensures
+          ∙ append_assoc c.loop-number.entries.items (entry_of kept ∷ []) (map entry_of (kept_from (n + 1) more.factors))
+          ∙ ap (λ (ks : List KeptFactor). c.loop-number.entries.items ++ map entry_of ks) next
+          ∙ ap (λ left. c.loop-number.entries.items ++ map entry_of (kept_from n (judged_from src_cells dst_cells n left).factors)) left
+          ∙ c.loop-number.invariant.entries;
       few = omega (arith, within);
       fault = sym (step-fault n r more kept said) ∙ ap (λ left. (judged_from src_cells dst_cells n left).fault) left ∙ c.loop-number.invariant.fault;
     }
-
-pub returns-clause-factors : goal.returns-clause-factors
-returns-clause-factors c = let few = c.loop-number.invariant.few in absurd (omega arith)
-
-pub returns-clause-fault : goal.returns-clause-fault
-returns-clause-fault c = let few = c.loop-number.invariant.few in absurd (omega arith)

@@ -7,15 +7,15 @@ use Rattle.cpl_smm.proofs.rows.starts_of.Goals as goal
 
 pub loop-dst-preserved : goal.loop-dst-preserved
 loop-dst-preserved c =
-    let factors = c.args.factors.now in
+    let dsts = c.args.dsts.now in
     let dst = c.loop-dst.dst in
-    let place : c.past-place.result ≡ count_upto dst factors = c.past-place.ensures.value ∙ sym (c.loop-dst.invariant.on dst (omega arith)) in
+    let place : c.past-place.result ≡ count_upto dst dsts = c.past-place.ensures.value ∙ sym (c.loop-dst.invariant.on dst (omega arith)) in
     record {
       starts =
           c.in_ok-push.ensures.items
           ∙ ap (λ (xs : List ℕ). xs ++ c.past-place.result ∷ []) c.loop-dst.invariant.starts
-          ∙ ap (λ n. map (λ d. count_upto d factors) (range_with_len 0 dst) ++ n ∷ []) place
-          ∙ sym (map-range_with_len_more (λ d. count_upto d factors) 0 dst dst (omega arith));
+          ∙ ap (λ n. map (λ d. count_upto d dsts) (range_with_len 0 dst) ++ n ∷ []) place
+          ∙ sym (map-range_with_len_more (λ d. count_upto d dsts) 0 dst dst (omega arith));
       within = c.past-place.ensures.within;
-      on = λ d more. count_upto-on dst d factors (omega arith) ∙ ap (λ n. n + count_upto d (drop n factors)) (sym place);
+      on = λ d more. count_upto-on dst d dsts (omega arith) ∙ ap (λ n. n + count_upto d (drop n dsts)) (sym place);
     }

@@ -1,6 +1,6 @@
 use Rattle.std.proofs.Common.{◌≡◌, map, take}
 use Rattle.cpl_smm.specs.Kept.{entry_of}
-use Rattle.cpl_smm.proofs.rows.entries_of.Given as goal
+use Rattle.cpl_smm.proofs.columns.fill_entries.Given as goal
 
 -- the entries so far
 abbrev pub invariant-loop-factor : goal.invariant-loop-factor
