@@ -39,18 +39,9 @@ pub fn read_alarms(alloc: Global, items: &Items) -> Result<AlarmTable, TableFaul
     ensures answer { Gives TableFault.Memory (λ table. table) result (alarms_of items.now) }
     ensures alarms { IfOk result AreAlarms }
 {
-    let table = table_of(alloc, rows_under(items, b"alarms"))?;
-    Ok(table)
-}
-
-/// The alarms of rows.
-fn table_of(alloc: Global, rows: &[Row]) -> Result<AlarmTable, TableFault>
-    ensures gives { Gives TableFault.Memory (λ table. table) result (with_alarms no_alarms rows.now) }
-    ensures alarms { IfOk result AreAlarms }
-{
     let mut names = Vec::new(alloc);
     let mut alarms = Vec::new(alloc);
-    for row in rows {
+    for row in rows_under(items, b"alarms") {
         let NamedAlarm { name, alarm } = read_alarm(alloc, names.as_slice(), row)?;
         names.push(name)?;
         alarms.push(alarm)?;

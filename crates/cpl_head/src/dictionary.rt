@@ -31,18 +31,10 @@ pub fn read_dictionary(alloc: Global, items: &Items) -> Result<Dict, TableFault>
     ensures { Gives TableFault.Memory (λ dict. dict) result (dictionary_of items.now) }
 {
     let mut dict = Dict::new(alloc);
-    add_rows(alloc, &mut dict, rows_under(items, b"dictionary"))?;
-    Ok(dict)
-}
-
-/// Adds what rows say.
-fn add_rows(alloc: Global, dict: &mut Dict, rows: &[Row]) -> Result<(), TableFault>
-    ensures { Gives TableFault.Memory (λ _. dict.new) result (with_rows dict.old rows.now) }
-{
-    for row in rows {
-        add_words(alloc, dict, row.line, row.words.items())?;
+    for row in rows_under(items, b"dictionary") {
+        add_words(alloc, &mut dict, row.line, row.words.items())?;
     }
-    Ok(())
+    Ok(dict)
 }
 
 /// Adds what the words of the row in a line say.

@@ -2,7 +2,7 @@ use Rattle.std.proofs.Common.{◌≡◌, drop, List, ℕ, arith, subst}
 use Rattle.std.proofs.lemmas.Grind.{common_steps}
 use Rattle.cpl_head.specs.Alarms.{AreAlarms, IsNewAlarm, no_alarms, with_alarms}
 use Rattle.cpl_head.proofs.AlarmFacts.{with_alarm-are}
-use Rattle.cpl_head.proofs.alarms.table_of.Goals as goal
+use Rattle.cpl_head.proofs.alarms.read_alarms.Goals as goal
 
 -- the row gives the alarm that is put behind the others
 pub loop-row-preserved : goal.loop-row-preserved
