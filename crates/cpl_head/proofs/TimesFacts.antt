@@ -1,5 +1,5 @@
 -- The first second of the year 2000, and the room that a calendar leaves behind a moment.
-use Rattle.std.proofs.Common.{◌≡◌, ℕ, ◌≤◌, ◌^◌, ℤ, pos, ◌≤ℤ◌, List, codes, Result, Ok, refl, arith, lit≤}
+use Rattle.std.proofs.Common.{◌≡◌, ◌≤◌, ◌^◌, ℤ, pos, ◌≤ℤ◌, codes, Ok, refl, arith, lit≤}
 use Rattle.std.proofs.lemmas.Int.{ints}
 use Rattle.cpl_calendar.specs.Calendar.{InTime, end_of_time, moment_of, moment_or_fault}
 use Rattle.cpl_calendar.specs.Texts.{Spells}
@@ -26,6 +26,10 @@ end_of_time-small : (cal : Cal) → end_of_time cal ≤ 2 ^ 40
 end_of_time-small Gregorian = rw days_before-at (lit≤ tt)
 end_of_time-small NoLeap = rw days_before-at (lit≤ tt)
 end_of_time-small Day360 = rw days_before-at (lit≤ tt)
+
+-- the same of signed numbers
+pub end_of_time-most : (cal : Cal) → pos (end_of_time cal) ≤ℤ pos (2 ^ 40)
+end_of_time-most cal = omega (arith, ints, end_of_time-small cal)
 
 -- there is room behind each moment
 pub room_after-least : (cal : Cal) (moment : ℤ) → InTime cal moment → pos 1 ≤ℤ room_after cal moment

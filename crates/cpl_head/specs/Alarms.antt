@@ -22,7 +22,8 @@ use Rattle.cpl_head.specs.declared.fault.TableFault.TheVariants.{BadValue}
 -- an alarm each so many seconds, from 1 to a thousand million, first after some, from 0 to a thousand million
 abbrev pub every_words : List ℕ → List ℕ → Option Alarm
 every_words interval first =
-    option_and_then (λ s. option_map (λ f. Every (pos f) (pos s)) (number_between 0 1000000000 first)) (number_between 1 1000000000 interval)
+    option_and_then (λ s. option_map (λ f. Every (pos f) (pos s)) (number_between 0 1000000000 first))
+    (number_between 1 1000000000 interval)
 
 -- when an alarm rings, by the words behind its name: `every S from F` or `monthly`
 abbrev pub alarm_words : List (List ℕ) → Option Alarm
@@ -34,7 +35,8 @@ alarm_words words = None
 -- the alarm with its name that the words of a row say
 abbrev pub named_alarm : List (List ℕ) → Option NamedAlarm
 named_alarm [] = None
-named_alarm (name ∷ words) = if is_name name then option_map (λ alarm. record { name = name; alarm = alarm }) (alarm_words words) else None
+named_alarm (name ∷ words) =
+    if is_name name then option_map (λ alarm. record { name = name; alarm = alarm }) (alarm_words words) else None
 
 -- ---- the table
 
@@ -51,12 +53,14 @@ alarm_behind names row =
 
 -- the table with one more alarm
 abbrev pub with_alarm : AlarmTable → NamedAlarm → AlarmTable
-with_alarm table named = record { names = table.names ++ named.name ∷ []; alarms = table.alarms ++ named.alarm ∷ [] }
+with_alarm table named =
+    record { names = table.names ++ named.name ∷ []; alarms = table.alarms ++ named.alarm ∷ [] }
 
 -- the table with the alarms of further rows, or the first fault
 abbrev pub with_alarms : AlarmTable → List Row → Result AlarmTable TableFault
 with_alarms table [] = Ok table
-with_alarms table (row ∷ rows) = alarm_behind table.names row >>= (λ named. with_alarms (with_alarm table named) rows)
+with_alarms table (row ∷ rows) =
+    alarm_behind table.names row >>= (λ named. with_alarms (with_alarm table named) rows)
 
 -- no alarms
 abbrev pub no_alarms : AlarmTable

@@ -29,24 +29,26 @@ dict_fault line dictionary.UnitsDiffer = UnitsDiffer line
 dict_fault line dictionary.Memory = Memory
 
 -- the dictionary that a call gives for the row in a line, or why there is none
-abbrev pub in_line : ℕ → Result Dictionary DictFault → Result Dictionary TableFault
-in_line line made = result_map_both (λ dict. dict) (dict_fault line) made
+abbrev pub dictionary_in_line : ℕ → Result Dictionary DictFault → Result Dictionary TableFault
+dictionary_in_line line made = result_map_both (λ dict. dict) (dict_fault line) made
 
 -- the dictionary with the name and the units that are all the words of a row
 abbrev pub with_name_row : Dictionary → ℕ → List (List ℕ) → Result Dictionary TableFault
 with_name_row dict line (name ∷ units ∷ []) =
-    ok_if (is_standard_name name) (BadValue line) >>= (λ _. in_line line (with_name dict name units))
+    ok_if (is_standard_name name) (BadValue line) >>= (λ _. dictionary_in_line line (with_name dict name units))
 with_name_row dict line words = Err (BadValue line)
 
 -- the dictionary with two or more names that stand for one another
 abbrev pub with_synonym_row : Dictionary → ℕ → List (List ℕ) → Result Dictionary TableFault
 with_synonym_row dict line names =
-    ok_if (nat_le 2 (length names) && list_all is_standard_name names) (BadValue line) >>= (λ _. in_line line (with_synonyms dict names))
+    ok_if (nat_le 2 (length names) && list_all is_standard_name names) (BadValue line) >>= (λ _.
+    dictionary_in_line line (with_synonyms dict names))
 
 -- the dictionary with what the words of a row say: `synonym a b ..` or `name units`
 abbrev pub with_words : Dictionary → ℕ → List (List ℕ) → Result Dictionary TableFault
 with_words dict line [] = Err (BadValue line)
-with_words dict line (word ∷ words) = if is_synonym word then with_synonym_row dict line words else with_name_row dict line (word ∷ words)
+with_words dict line (word ∷ words) =
+    if is_synonym word then with_synonym_row dict line words else with_name_row dict line (word ∷ words)
 
 -- the dictionary with further rows, or the first fault
 abbrev pub with_rows : Dictionary → List Row → Result Dictionary TableFault

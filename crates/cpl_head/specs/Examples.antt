@@ -2,7 +2,6 @@
 use Rattle.std.specs.Prelude.{◌≡◌, ℕ, ℤ, pos, List, [], ◌∷◌, ◌++◌, codes, map, Option, Some, None, Result, Ok, Err}
 use Rattle.cpl_calendar.specs.declared.calendar.Cal.{Cal}
 use Rattle.cpl_calendar.specs.declared.calendar.Cal.TheVariants.{Gregorian, NoLeap, Day360}
-use Rattle.cpl_clock.specs.declared.alarm.Alarm.{Alarm}
 use Rattle.cpl_clock.specs.declared.alarm.Alarm.TheVariants.{Every, Monthly}
 use Rattle.cpl_config.specs.Items.{items_of, word_line}
 use Rattle.cpl_config.specs.declared.entry.Entry.{Entry}
@@ -47,8 +46,12 @@ head_of_two cal start span time_step =
 -- heads, and files with their faults
 pub record HeadExamples : Type 0 where
   pub defaults : head_in (two_models []) ≡ Ok (head_of_two Gregorian (pos 63082281600) None None)
-  pub default_start : head_in (two_models (codes "calendar: 360day")) ≡ Ok (head_of_two Day360 (pos 62176896000) None None)
-  pub all : head_in (two_models (codes "timeStep: 007\nstopTime: 2000-03-01T00:00:01\nstartTime: 2000-02-28T00:00:00\ncalendar: noleap")) ≡ Ok (head_of_two NoLeap (pos 63045475200) (Some (pos 86401)) (Some (pos 7)))
+  pub default_start :
+      head_in (two_models (codes "calendar: 360day"))
+      ≡ Ok (head_of_two Day360 (pos 62176896000) None None)
+  pub all :
+      head_in (two_models (codes "timeStep: 007\nstopTime: 2000-03-01T00:00:01\nstartTime: 2000-02-28T00:00:00\ncalendar: noleap"))
+      ≡ Ok (head_of_two NoLeap (pos 63045475200) (Some (pos 86401)) (Some (pos 7)))
   pub no_list : head_in (codes "EARTH_component_list::\nA\n::\n") ≡ Err (MissingLabel (codes "EARTH_component_list"))
   pub no_sequence : head_in (codes "EARTH_component_list:\nrunSeq: A") ≡ Err (MissingLabel (codes "runSeq"))
   pub empty_list : head_in (codes "\nEARTH_component_list:\ncalendar: x\nrunSeq::\n::") ≡ Err (head.BadValue 2)
@@ -73,7 +76,8 @@ dictionary_in text = dictionary_of (entries_in text)
 
 -- two names of kelvins that stand for one another
 abbrev pub two_temperatures : Dictionary
-two_temperatures = record { names = (codes "t", codes "K") ∷ (codes "tas", codes "K") ∷ []; calls = (codes "t" ∷ codes "tas" ∷ []) ∷ [] }
+two_temperatures =
+    record { names = (codes "t", codes "K") ∷ (codes "tas", codes "K") ∷ []; calls = (codes "t" ∷ codes "tas" ∷ []) ∷ [] }
 
 -- dictionaries, and tables with their faults
 pub record DictionaryExamples : Type 0 where
@@ -95,7 +99,8 @@ alarms_in text = alarms_of (entries_in text)
 
 -- an alarm each day, from the second hour on, and one with each month
 abbrev pub two_alarms : AlarmTable
-two_alarms = record { names = codes "day" ∷ codes "month" ∷ []; alarms = Every (pos 3600) (pos 86400) ∷ Monthly ∷ [] }
+two_alarms =
+    record { names = codes "day" ∷ codes "month" ∷ []; alarms = Every (pos 3600) (pos 86400) ∷ Monthly ∷ [] }
 
 -- alarms, and tables with their faults
 pub record AlarmExamples : Type 0 where

@@ -2,7 +2,7 @@
 use Rattle.std.specs.Prelude.{ℕ, pos, ◌≤ℤ◌, ◌<ℤ◌, ◌^◌, List, codes, is_some, IfSome, Result, Ok}
 use Rattle.std.specs.Option.{ok_or}
 use Rattle.cpl_base.specs.ResultChain.{◌>>=◌, ok_if}
-use Rattle.cpl_calendar.specs.Calendar.{InTime}
+use Rattle.cpl_calendar.specs.Calendar.{InTime, end_of_time}
 use Rattle.cpl_config.specs.Items.{table_under, value_under}
 use Rattle.cpl_config.specs.declared.entry.Entry.{Entry}
 use Rattle.cpl_config.specs.declared.row.Row.{Row}
@@ -32,10 +32,11 @@ head_of entries =
     time_step_in (value_under (codes "timeStep") entries) >>= (λ time_step.
     Ok (record { components = components; cal = cal; start = start; span = span; time_step = time_step }))))))))
 
--- What holds of a head: its names, its start, how long the run may last, and the span and the step, where they are given.
+-- What holds of a head: its names, its start, how long the run may last, and the span and the step, where given.
 pub record IsHead (head : Head) : Type 0 where
   pub components : AreComponents head.components
   pub start : InTime head.cal head.start
+  pub end_most : pos (end_of_time head.cal) ≤ℤ pos (2 ^ 40)
   pub room_least : pos 1 ≤ℤ room_after head.cal head.start
   pub room_most : room_after head.cal head.start ≤ℤ pos (2 ^ 40)
   pub span_least : IfSome head.span (λ span. pos 1 ≤ℤ span)

@@ -1,5 +1,5 @@
 -- The calendar of a run, its start, how long it lasts, and its step.
-use Rattle.std.specs.Prelude.{ℕ, ℤ, pos, ◌-ℤ◌, ◌≤ℤ◌, if◌then◌else◌, int_lt, List, codes, Option, Some, None, option_and_then, option_map, Result, Ok}
+use Rattle.std.specs.Prelude.{ℕ, ℤ, pos, ◌-ℤ◌, ◌≤ℤ◌, if◌then◌else◌, int_lt, List, codes, Option, Some, None, option_and_then, Result, Ok}
 use Rattle.std.specs.Option.{ok_or}
 use Rattle.std.specs.Result.{result_map_both}
 use Rattle.std.specs.Str.{bytes_eq}

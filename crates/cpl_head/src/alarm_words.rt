@@ -1,6 +1,6 @@
 //! What the words of a row say of an alarm, by their form alone.
 
-ghost use Rattle.std.specs.Prelude.{◌≡◌, ◌≤ℤ◌, pos, option_map, true, IfSome};
+ghost use Rattle.std.specs.Prelude.{◌≡◌, IfSome};
 ghost use Rattle.std.specs.Str.{bytes_eq};
 ghost use Rattle.cpl_clock.specs.Alarm.{IsRegular};
 ghost use Rattle.cpl_head.specs.Alarms.{alarm_words, every_words};

@@ -1,8 +1,8 @@
 //! The alarms of a run, row by row.
 
-ghost use Rattle.std.specs.Prelude.{◌≡◌, false, IfOk};
+ghost use Rattle.std.specs.Prelude.{◌≡◌, IfOk};
 ghost use Rattle.cpl_base.specs.Gives.{Gives};
-ghost use Rattle.cpl_head.specs.Alarms.{AreAlarms, IsNewAlarm, alarm_behind, alarms_of, is_taken, no_alarms, with_alarms};
+ghost use Rattle.cpl_head.specs.Alarms.{AreAlarms, IsNewAlarm, alarm_behind, alarms_of, is_taken};
 
 use crate::alarm_words::{NamedAlarm, alarm_words};
 use crate::fault::TableFault;

@@ -1,9 +1,9 @@
 //! The field dictionary, row by row.
 
-ghost use Rattle.std.specs.Prelude.{◌≡◌, ◌∷◌, []};
+ghost use Rattle.std.specs.Prelude.{◌≡◌, []};
 ghost use Rattle.std.specs.List.{list_all};
 ghost use Rattle.cpl_base.specs.Gives.{Gives};
-ghost use Rattle.cpl_head.specs.Dictionaries.{dict_fault, dictionary_of, is_standard_name, is_synonym, with_name_row, with_rows, with_synonym_row, with_words};
+ghost use Rattle.cpl_head.specs.Dictionaries.{dict_fault, dictionary_of, is_standard_name, is_synonym, with_name_row, with_synonym_row, with_words};
 
 use crate::fault::TableFault;
 use crate::labels::rows_under;

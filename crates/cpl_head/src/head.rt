@@ -1,6 +1,6 @@
 //! What a file says of a run as a whole.
 
-ghost use Rattle.std.specs.Prelude.{◌≡◌, IfOk};
+ghost use Rattle.std.specs.Prelude.{IfOk};
 ghost use Rattle.cpl_base.specs.Gives.{Gives};
 ghost use Rattle.cpl_head.specs.Head.{IsHead, head_of};
 

@@ -1,6 +1,6 @@
-use Rattle.std.proofs.Common.{◌≡◌, drop, List, ℕ, arith, subst}
+use Rattle.std.proofs.Common.{List, ℕ, arith, subst}
 use Rattle.std.proofs.lemmas.Grind.{common_steps}
-use Rattle.cpl_head.specs.Alarms.{AreAlarms, IsNewAlarm, no_alarms, with_alarms}
+use Rattle.cpl_head.specs.Alarms.{IsNewAlarm}
 use Rattle.cpl_head.proofs.AlarmFacts.{with_alarm-are}
 use Rattle.cpl_head.proofs.alarms.read_alarms.Goals as goal
 

@@ -1,6 +1,5 @@
-use Rattle.std.proofs.Common.{◌≡◌, pos, Ok, refl, sym, ◌∙◌, subst}
+use Rattle.std.proofs.Common.{refl, sym, ◌∙◌, subst}
 use Rattle.std.specs.Result.{IsOk}
-use Rattle.cpl_calendar.specs.Calendar.{moment_of}
 use Rattle.cpl_head.specs.Times.{first_of_2000}
 use Rattle.cpl_head.proofs.TimesFacts.{first_of_2000-Spells, first_of_2000-moment}
 use Rattle.cpl_head.proofs.times.default_start.Goals as goal
