@@ -1,5 +1,5 @@
 -- What holds of a head, by its parts.
-use Rattle.std.proofs.Common.{ℤ, pos, ◌≤ℤ◌, ◌<ℤ◌, IfSome}
+use Rattle.std.proofs.Common.{pos, ◌≤ℤ◌, ◌<ℤ◌, IfSome}
 use Rattle.cpl_calendar.specs.Calendar.{InTime}
 use Rattle.cpl_head.specs.Components.{AreComponents}
 use Rattle.cpl_head.specs.Head.{IsHead}
