@@ -1,0 +1,3 @@
+mod AlarmFacts
+mod HeadFacts
+mod TimesFacts
