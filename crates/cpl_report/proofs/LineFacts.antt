@@ -1,5 +1,5 @@
 -- Texts joined by a byte, and one more behind them.
-use Rattle.std.proofs.Common.{◌≡◌, ℕ, ◌+◌, ◌<◌, List, [], ◌∷◌, ◌++◌, length, get_or, take, refl, sym, ap, ◌∙◌, arith, append_assoc, decimal, codes}
+use Rattle.std.proofs.Common.{◌≡◌, ℕ, ◌+◌, ◌<◌, List, [], ◌∷◌, ◌++◌, length, get_or, take, refl, sym, ap, ◌∙◌, append_assoc, decimal, codes}
 use Rattle.std.proofs.lemmas.List.{take_more}
 use Rattle.std.specs.List.{join_with_byte}
 use Rattle.cpl_report.specs.Refusals.{refusal_name, refusal_words}

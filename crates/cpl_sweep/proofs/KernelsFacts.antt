@@ -1,6 +1,6 @@
 -- A strip of which the first values are new, and one more.
-use Rattle.std.proofs.Common.{◌≡◌, ℕ, ℤ, ◌+◌, ◌<◌, ◌≤◌, List, length, get_or, set, pos, negsuc, zero, suc, sym, subst, arith, ◌∙◌, inl, inr}
-use Rattle.std.proofs.lemmas.Bool.{cases_eq, cases_lt}
+use Rattle.std.proofs.Common.{◌≡◌, ℕ, ℤ, ◌+◌, ◌<◌, ◌≤◌, List, length, set, pos, negsuc, zero, suc, sym, subst, arith, ◌∙◌, inl, inr}
+use Rattle.std.proofs.lemmas.Bool.{cases_eq}
 use Rattle.std.proofs.lemmas.List.{get_or-set_same, get_or-set_other}
 use Rattle.std.proofs.lemmas.List.Elements.{All-set}
 use Rattle.std.specs.List.{All}

@@ -1,5 +1,5 @@
 -- What a formula is worth at the cells of a run.
-use Rattle.std.specs.Prelude.{◌≡◌, ℕ, ℤ, pos, ◌+◌, ◌<◌, ◌≤◌, List, [], length, map, slice_index_or}
+use Rattle.std.specs.Prelude.{ℕ, ℤ, pos, ◌+◌, ◌<◌, ◌≤◌, List, [], length, map, slice_index_or}
 use Rattle.std.specs.List.{range_with_len}
 use Rattle.cpl_base.specs.Numbers.{IsValue}
 use Rattle.cpl_formula.specs.Tree.{value_of}

@@ -1,6 +1,5 @@
 -- What stands in a strip of cells.
 use Rattle.std.specs.Prelude.{◌≡◌, ℕ, ℤ, ◌+◌, ◌<◌, List, length}
-use Rattle.std.specs.Borrow.{Bor}
 use Rattle.std.specs.List.{All}
 use Rattle.cpl_base.specs.Numbers.{IsValue}
 use Rattle.cpl_formula.specs.declared.formula.Formula.{Formula}

@@ -1,4 +1,4 @@
-use Rattle.std.proofs.Common.{◌∙◌, length, arith, refl}
+use Rattle.std.proofs.Common.{length, arith, refl}
 use Rattle.std.proofs.lemmas.Int.{ints, to_z-of_z}
 use Rattle.std.specs.Int.{w64}
 use Rattle.cpl_sweep.specs.Kernels.{IsMade}

@@ -1,5 +1,4 @@
-use Rattle.std.proofs.Common.{◌≡◌, ℕ, ℤ, ◌<◌, get_or, length}
-use Rattle.cpl_base.specs.Numbers.{IsValue}
+use Rattle.std.proofs.Common.{◌≡◌, ℕ, ◌<◌}
 use Rattle.cpl_sweep.specs.Kernels.{number_at}
 use Rattle.cpl_sweep.proofs.kernels.spread.Given as goal
 

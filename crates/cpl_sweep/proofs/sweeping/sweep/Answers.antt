@@ -1,6 +1,5 @@
-use Rattle.std.proofs.Common.{◌≡◌, ◌+◌, ◌*◌, ◌/◌, ◌%◌, ◌≤◌, min, arith, length, ◌∙◌, ap}
+use Rattle.std.proofs.Common.{◌*◌, ◌≤◌, arith, length, ◌∙◌, ap}
 use Rattle.std.proofs.lemmas.Grind.{div_ceil_times}
-use Rattle.std.specs.List.{range_with_len}
 use Rattle.cpl_sweep.specs.Places.{value_at, values_over}
 use Rattle.cpl_sweep.proofs.StripsFacts.{All-swept, values-swept}
 use Rattle.cpl_sweep.proofs.sweeping.sweep.Goals as goal

@@ -1,6 +1,4 @@
-use Rattle.std.proofs.Common.{◌≡◌, ℕ, ◌*◌, ◌<◌, ◌≤◌, min, length}
-use Rattle.cpl_base.specs.Numbers.{IsValue}
-use Rattle.cpl_sweep.specs.Kernels.{number_at}
+use Rattle.std.proofs.Common.{◌*◌}
 use Rattle.cpl_sweep.specs.Places.{value_at}
 use Rattle.cpl_sweep.proofs.StripsFacts.{IsSweptUpTo}
 use Rattle.cpl_sweep.proofs.sweeping.sweep.Given as goal
