@@ -10,14 +10,17 @@
 #   routes     routes of 1,024 by 1,024 cells, beside passes that write as many numbers
 #   rows       weighted sums of four factors and of sixteen, beside a plain loop of 64 bits
 #   mediator   sums and averages of kept fields, beside a loop of sums and one of divisions
+#   sweep      a formula over a block of 126 by 47 cells, beside loops with its numbers in the code; six thousand
+#              rounds for each pass over the block
 set -eu
 cd "$(dirname "$0")/../crates/bench"
-measure="${1:?values, prepared, formula, sequence, weights, rows, routes or mediator}"
+measure="${1:?values, prepared, formula, sequence, weights, rows, routes, mediator or sweep}"
 case "$measure" in
     sequence) rounds="${2:-400}" ;;
     routes) rounds="${2:-5000}" ;;
     weights) rounds="${2:-1024}" ;;
     mediator) rounds="${2:-20000}" ;;
+    sweep) rounds="${2:-60000}" ;;
     formula | rows) rounds="${2:-10000}" ;;
     *) rounds="${2:-100000}" ;;
 esac
@@ -43,4 +46,5 @@ rt run > /dev/null 2>&1
         ratio("rows_of_16", "plain_rows_of_16")
         ratio("adds", "plain_adds")
         ratio("averages", "plain_averages")
+        ratio("sweep", "plain_sweep")
     }'

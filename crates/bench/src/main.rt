@@ -1,7 +1,7 @@
 //! How long the parts that matter take, each beside a plain path.
 //!
 //! The first word of the command line is the measure (`values`, `prepared`, `formula`, `sequence`, `weights`, `rows`,
-//! `routes`, `mediator`), the second how many thousands of rounds it makes; without words each measure makes one
+//! `routes`, `mediator`, `sweep`), the second how many thousands of rounds it makes; without words each measure makes one
 //! thousand. Checksums go to standard output, times in nanoseconds to standard error.
 #![tactic(auto)]
 
@@ -14,6 +14,7 @@ mod mediator;
 mod passes;
 mod products;
 mod routes;
+mod sweeps;
 mod table;
 mod weights;
 
@@ -32,6 +33,7 @@ use std::alloc::Global;
 use std::rt::{Clock, Env};
 use std::time::{Duration, Instant};
 use std::{env, io};
+use sweeps::{Room, demo_block, plain_time, sweep_time};
 use table::table;
 use weights::{plain_pass, plain_rows, read_sum, rows_sum, text, weights};
 
@@ -236,6 +238,28 @@ fn measure_routes(
     report(rt, "halo_of_columns", start, sum)
 }
 
+/// Values of a formula over a block of 126 by 47 cells: a pass over all of them for each six thousands of rounds.
+fn measure_sweep(
+    rt: &(impl Clock + Print + Eprint),
+    alloc: Global,
+    values: &[i64],
+    rounds: u64,
+) -> io::Result<()>
+    requires { length values.now ≡ 1029 }
+{
+    let block = demo_block(rounds);
+    let Some(tree) = tree(alloc) else {
+        return eprintln!(rt; "the formula isn't read");
+    };
+    let Ok(mut room) = Room::new(alloc, &block, &tree, values) else {
+        return eprintln!(rt; "out of memory");
+    };
+    let time = plain_time(rt, &block, &mut room, rounds / 6 + 1)?;
+    report_time(rt, "plain_sweep", time, room.sum(&block))?;
+    let time = sweep_time(rt, &block, &tree, &mut room, rounds / 6 + 1)?;
+    report_time(rt, "sweep", time, room.sum(&block))
+}
+
 /// Prints a sum that was made in so much time.
 fn report_time(rt: &(impl Print + Eprint), name: &str, time: Duration, sum: i64) -> io::Result<()> {
     println!(rt; "{name} {sum}")?;
@@ -303,6 +327,9 @@ fn main(rt: HostRuntime) -> io::Result<()> {
     }
     if is_asked(&asked, "mediator") {
         measure_mediator(&rt, rt.alloc(), values.as_slice(), rounds)?;
+    }
+    if is_asked(&asked, "sweep") {
+        measure_sweep(&rt, rt.alloc(), values.as_slice(), rounds)?;
     }
     Ok(())
 }

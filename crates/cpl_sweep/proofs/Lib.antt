@@ -1,0 +1,5 @@
+mod KernelsFacts
+mod OperandsFacts
+mod RowsFacts
+mod StripsFacts
+mod WholeFacts

@@ -1,0 +1,5 @@
+//! Tests of the texts of refusals.
+#![tactic(auto)]
+
+#[cfg(test)]
+mod refusals;
