@@ -1,6 +1,9 @@
 pub mod Couplings
+pub mod Drafts
 pub mod Halos
+pub mod Kept
 pub mod Matched
+pub mod OpCursors
 pub mod Operations
 pub mod Parts
 pub mod SerialRun

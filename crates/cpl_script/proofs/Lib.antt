@@ -1,0 +1,10 @@
+mod CapFacts
+mod ConnectorFacts
+mod HaloFacts
+mod InitFacts
+mod ListFacts
+mod NeedFacts
+mod OpCursorFacts
+mod PortFacts
+mod RangeFacts
+mod SystemFacts
