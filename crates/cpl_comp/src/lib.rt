@@ -30,7 +30,7 @@ pub use component::{
     Comp, Field, Halo, Kind, MergeRow, Phase, RangeRow, Role, Rule, SetRow, Wanted,
 };
 pub use cpl_formula::Argument;
-pub use examples::component_examples;
+pub use examples::{component_examples, reading_examples};
 pub use fault::CompFault;
 pub use found::FoundKind;
 pub use realised::Realised;

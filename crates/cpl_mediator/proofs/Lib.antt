@@ -1,3 +1,3 @@
 mod AveragesFacts
 mod MergesFacts
-mod NearFacts
+pub mod NearFacts

@@ -5,6 +5,8 @@ mod InitFacts
 mod ListFacts
 mod NeedFacts
 mod OpCursorFacts
+pub mod PartFacts
 mod PortFacts
 mod RangeFacts
 mod SystemFacts
+pub mod WorldFacts

@@ -49,9 +49,13 @@ world_after coupling entries world (Run component phase time step at substep fir
     world_after_run coupling entries world component phase
         (record { time = time; step = step; at = at; substep = substep; first = first; last = last })
 
+-- the world after operations from the start on
+unfoldable pub world_of : Coupling → EntryAnswers → List Op → World
+world_of coupling entries ops = fold (world_after coupling entries) (first_world coupling) ops
+
 -- the world before the operation of a number; behind the last, the world at the end
-unfoldable pub world_before : Coupling → EntryAnswers → ℕ → World
-world_before coupling entries k = fold (world_after coupling entries) (first_world coupling) (take k (ops_of coupling))
+abbrev pub world_before : Coupling → EntryAnswers → ℕ → World
+world_before coupling entries k = world_of coupling entries (take k (ops_of coupling))
 
 -- ---- faults
 
@@ -170,9 +174,13 @@ total_after coupling entries total numbered =
       rows = total.rows ++ rows_of coupling world numbered.0 numbered.1;
     }
 
+-- a run of operations, which are numbered from 0
+unfoldable pub total_of : Coupling → EntryAnswers → List Op → Total
+total_of coupling entries ops = fold (total_after coupling entries) (first_total coupling) (enumerate_from 0 ops)
+
 -- a run of all operations
-unfoldable pub total_run : Coupling → EntryAnswers → Total
-total_run coupling entries = fold (total_after coupling entries) (first_total coupling) (enumerate_from 0 (ops_of coupling))
+abbrev pub total_run : Coupling → EntryAnswers → Total
+total_run coupling entries = total_of coupling entries (ops_of coupling)
 
 -- the rows of a trace, where one is asked for
 abbrev pub asked_rows : Bool → List TraceRow → List TraceRow
@@ -184,28 +192,32 @@ abbrev pub op_of : Found → ℕ
 op_of found = found.code / op_factor
 
 -- the outcome of a run without a fault: the ends of all components
-abbrev pub end_outcome : Coupling → Bool → Total → Outcome
-end_outcome coupling trace total = record {
-  done = length (ops_of coupling);
+abbrev pub end_outcome : Coupling → List Op → Bool → Total → Outcome
+end_outcome coupling ops trace total = record {
+  done = length ops;
   comps = map (comp_end total.world) (enumerate_from 0 coupling.comps);
   fault = None;
   trace = asked_rows trace total.rows;
 }
 
 -- the outcome of a run whose least fault this is: what had ended before the operation of that fault
-abbrev pub fault_outcome : Coupling → EntryAnswers → Bool → List TraceRow → Found → Outcome
-fault_outcome coupling entries trace rows found = record {
+abbrev pub fault_outcome : Coupling → EntryAnswers → List Op → Bool → List TraceRow → Found → Outcome
+fault_outcome coupling entries ops trace rows found = record {
   done = op_of found;
-  comps = map comp_stop (world_before coupling entries (op_of found));
+  comps = map comp_stop (world_of coupling entries (take (op_of found) ops));
   fault = Some found;
   trace = asked_rows trace (filter (λ row. nat_lt row.op (op_of found)) rows);
 }
 
--- the outcome of a run that came to this
-abbrev pub outcome_of : Coupling → EntryAnswers → Bool → Total → Outcome
-outcome_of coupling entries trace total =
-    option_map_or (fault_outcome coupling entries trace total.rows) total.found (end_outcome coupling trace total)
+-- the outcome of a run of operations that came to this
+abbrev pub outcome_at : Coupling → EntryAnswers → List Op → Bool → Total → Outcome
+outcome_at coupling entries ops trace total =
+    option_map_or (fault_outcome coupling entries ops trace total.rows) total.found (end_outcome coupling ops trace total)
 
--- the outcome of the serial run of a system, with a trace or without
+-- the outcome of a run of operations, with a trace or without
+abbrev pub outcome_of : Coupling → EntryAnswers → List Op → Bool → Outcome
+outcome_of coupling entries ops trace = outcome_at coupling entries ops trace (total_of coupling entries ops)
+
+-- the outcome of the serial run of a system: of all its operations, one after another
 abbrev pub serial_outcome : Coupling → EntryAnswers → Bool → Outcome
-serial_outcome coupling entries trace = outcome_of coupling entries trace (total_run coupling entries)
+serial_outcome coupling entries trace = outcome_of coupling entries (ops_of coupling) trace

@@ -2,6 +2,7 @@
 #![tactic(auto)]
 
 mod draft;
+mod examples;
 mod fault;
 mod halos;
 mod init_ops;
@@ -13,6 +14,7 @@ mod routes;
 mod system;
 
 pub use cpl_comp::FoundKind;
+pub use examples::{part_examples, run_examples};
 pub use fault::SystemFault;
 pub use link::Link;
 pub use op_cursor::OpCursor;
