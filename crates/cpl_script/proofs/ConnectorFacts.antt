@@ -79,7 +79,7 @@ pair-even comps lines k line pair own there redist is mine =
     let leads = leads-between line pair mine in
     let ways = map way_of lines in
     let even = some-known (way_between ways pair.src pair.dst) (way_of line) (λ way. way.redist ≡ true → slice_index (cell_counts comps) pair.src ≡ slice_index (cell_counts comps) pair.dst)
-      (λ way at. way-is lines k line way own there ((λ i. way_between ways (sym leads.src i) (sym leads.dst i)) ∙ at)) is.way redist in
+    (λ way at. way-is lines k line way own there ((λ i. way_between ways (sym leads.src i) (sym leads.dst i)) ∙ at)) is.way redist in
     sym (cells-at comps line.src) ∙ ap (slice_index (cell_counts comps)) (sym leads.src) ∙ even ∙ ap (slice_index (cell_counts comps)) leads.dst ∙ cells-at comps line.dst
 
 -- the draft of a line

@@ -128,6 +128,7 @@ halos-are parts comps drafts comps_are drafts_are =
 -- the first test, and the second
 abbrev pub HasFewOps : SystemParts → Type 0
 HasFewOps parts = nat_le (op_total (coupling_of parts)) (2 ^ 24) ≡ true
+
 abbrev pub HasFewNumbers : SystemParts → Type 0
 HasFewNumbers parts = nat_le (route_total (coupling_of parts)) (2 ^ 25) ≡ true
 
