@@ -1,10 +1,13 @@
 pub mod Couplings
 pub mod DayExamples
+pub mod Drafts
 pub mod Examples
 pub mod Halos
 pub mod Held
+pub mod Kept
 pub mod Matched
 pub mod MediatorExamples
+pub mod OpCursors
 pub mod Operations
 pub mod PartExamples
 pub mod Parts

@@ -1,5 +1,5 @@
 -- What holds of parts that were read and accepted step by step, and what holds of every system.
-use Rattle.std.specs.Prelude.{◌≡◌, ◌≢◌, ℕ, ℤ, pos, ◌+◌, ◌*◌, ◌+ℤ◌, ◌<◌, ◌≤◌, ◌≤ℤ◌, ◌<ℤ◌, ◌^◌, true, List, [], length, filter, map, sum_by, slice_get, Option, Some, None, is_some, IfSome, IsTrue, unwrap_or}
+use Rattle.std.specs.Prelude.{◌≡◌, ◌≢◌, ℕ, ℤ, pos, ◌+◌, ◌*◌, ◌+ℤ◌, ◌<◌, ◌≤◌, ◌≤ℤ◌, ◌<ℤ◌, ◌^◌, true, List, [], length, filter, map, sum_by, slice_get, Option, Some, None, is_some, IfSome, IsSomeAnd, IsTrue, unwrap_or}
 use Rattle.std.specs.List.{All, zip}
 use Rattle.cpl_calendar.specs.Calendar.{InTime, end_of_time}
 use Rattle.cpl_clock.specs.Alarm.{IsRegular}
@@ -113,6 +113,11 @@ abbrev pub IsOpOf : Coupling → Op → Type 0
 IsOpOf coupling (Init component) = component < length coupling.comps
 IsOpOf coupling (LinkOp link at_init) = link < length coupling.links
 IsOpOf coupling (Run component phase time step at substep first last) = IsRunOf coupling component phase time step at substep
+
+-- A component of a system, and one of its phases where a phase is given.
+abbrev pub IsPhaseOf : Coupling → ℕ → Option ℕ → Type 0
+IsPhaseOf coupling component phase =
+    IsSomeAnd (slice_get coupling.comps component) (λ comp. IfSome phase (λ p. p < length comp.phases))
 
 -- What holds of every system.
 pub record IsCoupling (coupling : Coupling) : Type 0 where

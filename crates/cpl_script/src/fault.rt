@@ -1,6 +1,7 @@
 //! Why a configuration is too large.
 
 ghost use Rattle.std.specs.Prelude.{◌≡◌};
+ghost use Rattle.cpl_script.specs.declared.fault.SystemFault.{SystemFault};
 
 use cpl_base::Memory;
 use thiserror::Error;
@@ -28,9 +29,9 @@ pub enum SystemFault {
 }
 
 impl From<Memory> for SystemFault {
-    fn from(_memory: Memory) -> SystemFault
-        ensures { result ≡ SystemFault.Memory }
-    {
+    ghost from_gives = { λ _ fault. fault ≡ SystemFault.Memory };
+
+    fn from(_memory: Memory) -> SystemFault {
         SystemFault::Memory
     }
 }
