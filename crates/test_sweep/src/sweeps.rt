@@ -1,13 +1,15 @@
 //! Values of formulas over runs of cells, which another program worked out.
 
-ghost use Rattle.std.specs.Prelude.{◌≤◌, All, IsTrue, length};
+ghost use Rattle.std.specs.Prelude.{◌<◌, All, IfOk, IsTrue, length};
 ghost use Rattle.cpl_base.specs.Numbers.{IsValue};
+ghost use Rattle.cpl_formula.specs.Tree.{is_over};
 ghost use Rattle.cpl_sweep.specs.Places.{IsPlace};
 
-use cpl_base::{GREATEST, Text};
+use cpl_base::{GREATEST, Many, Text};
 use cpl_field::Field;
-use cpl_formula::{Read, ReadName, parse};
+use cpl_formula::{Formula, FormulaFault, Parsed, Read, ReadName, parse};
 use cpl_sweep::{Place, STRIP, scratch_rows, sweep, sweep_examples};
+use sqlite_items::Boxed;
 use std::alloc::Global;
 use std::process::Abort;
 use std::test::Fail;
@@ -670,43 +672,88 @@ fn are_places(places: &[Place], fields: &[Field], cells: usize) -> bool
     places.iter().all(|place| is_place(place, fields, cells))
 }
 
-/// The strips and the values of a text over so many cells.
-fn swept(
+/// A formula, and where its inputs come from.
+#[derive(Drop)]
+struct Rule {
+    tree: Boxed<Formula>,
+    places: Vec<Place>,
+}
+
+/// The names of the fields.
+fn names(alloc: Global) -> Result<Many<Text>, Fail> {
+    let mut names = Vec::new(alloc);
+    for name in [b"x", b"y", b"z"] {
+        names.push(Text::of(alloc, name)?)?;
+    }
+    Ok(Many::of(names))
+}
+
+/// The formula of a text, and what it reads.
+fn read(
     alloc: Global,
     text: &[u8],
-    fields: &[Field],
-    cells: usize,
-) -> Result<(usize, Vec<i64>), Fail> {
-    let names = [
-        Text::of(alloc, b"x")?,
-        Text::of(alloc, b"y")?,
-        Text::of(alloc, b"z")?,
-    ];
-    if text.len() > 1_000 {
-        return Err(Fail::from("a long text"));
+    names: &[Text],
+) -> Result<(Boxed<Formula>, Many<Read>), FormulaFault>
+    requires text { length text.now < 1000 }
+    requires names { length names.now < 10 }
+    ensures { IfOk result (λ read. IsTrue (is_over (length read.1) read.0)) }
+{
+    let Parsed { tree, reads } = parse(alloc, text, names, &[])?;
+    match Boxed::new(alloc, tree) {
+        Ok(tree) => Ok((tree, reads)),
+        Err(_) => Err(FormulaFault::Memory),
     }
-    let parsed = parse(alloc, text, &names, &[])?;
+}
+
+/// Where all inputs come from.
+fn places_of(alloc: Global, reads: &[Read]) -> Result<Vec<Place>, Fail> {
     let mut places = Vec::new(alloc);
-    for read in parsed.reads.items() {
+    for read in reads {
         places.push(place_of(read))?;
     }
-    let rows = scratch_rows(&parsed.tree);
-    let mut scratch = Vec::from_elem(alloc, i64::MAX, rows.saturating_mul(STRIP))?;
-    let mut these = Vec::from_elem(alloc, i64::MIN, cells)?;
-    if places.len() != parsed.reads.items().len() {
+    Ok(places)
+}
+
+/// The rule of a text.
+fn rule_of(alloc: Global, text: &[u8]) -> Result<Rule, Fail>
+    ensures { IfOk result (λ rule. IsTrue (is_over (length rule.places.items) rule.tree)) }
+{
+    let names = names(alloc)?;
+    if text.len() >= 1_000 || names.items().len() >= 10 {
+        return Err(Fail::from("a long text"));
+    }
+    let (tree, reads) = read(alloc, text, names.items())?;
+    let places = places_of(alloc, reads.items())?;
+    if places.len() != reads.items().len() {
         return Err(Fail::from("other inputs"));
     }
-    if !are_fields(fields) || !are_places(places.as_slice(), fields, cells) {
+    Ok(Rule { tree, places })
+}
+
+/// The values of a rule over so many cells.
+fn swept(
+    alloc: Global,
+    tree: &Formula,
+    places: &[Place],
+    fields: &[Field],
+    cells: usize,
+) -> Result<Vec<i64>, Fail>
+    requires { IsTrue (is_over (length places.now) tree.now) }
+{
+    let rows = scratch_rows(tree);
+    let mut scratch = Vec::from_elem(alloc, i64::MAX, rows.saturating_mul(STRIP))?;
+    let mut these = Vec::from_elem(alloc, i64::MIN, cells)?;
+    if !are_fields(fields) || !are_places(places, fields, cells) {
         return Err(Fail::from("inputs that don't reach"));
     }
     sweep(
-        &parsed.tree,
-        places.as_slice(),
+        tree,
+        places,
         fields,
         scratch.as_mut_slice(),
         these.as_mut_slice(),
     );
-    Ok((rows, these))
+    Ok(these)
 }
 
 /// The sum of each value times the number of its cell, counted from 1.
@@ -720,26 +767,29 @@ fn weighted_sum(values: &[i64]) -> i64 {
     sum
 }
 
+/// Compares the values of a rule with those of the table.
+fn compare(rt: &impl Abort, tree: &Formula, all: &[i64], place: usize, case: &Case) {
+    let (_, strips, wanted, sum) = case;
+    assert_eq!(rt; scratch_rows(tree), *strips, "strips of case {place}");
+    for (cell, value) in CELLS.iter().zip(wanted.iter()) {
+        assert_eq!(rt; all.get(*cell), Some(value), "case {place} at {cell}");
+    }
+    assert_eq!(rt; weighted_sum(all), *sum, "sum of case {place}");
+}
+
 /// Compares the values of a text with those of the table, and those over fewer cells with these.
-fn compare(
+fn compare_case(
     rt: &(impl Abort + AllocGlobal),
     fields: &[Field],
     place: usize,
     case: &Case,
 ) -> Result<(), Fail> {
-    let (text, strips, wanted, sum) = case;
-    let (rows, all) = swept(rt.alloc(), *text, fields, 300)?;
-    assert_eq!(rt; rows, *strips, "strips of case {place}");
-    for (cell, value) in CELLS.iter().zip(wanted.iter()) {
-        assert_eq!(rt;
-            all.as_slice().get(*cell),
-            Some(value),
-            "case {place} at {cell}"
-        );
-    }
-    assert_eq!(rt; weighted_sum(all.as_slice()), *sum, "sum of case {place}");
+    let alloc = rt.alloc();
+    let Rule { tree, places } = rule_of(alloc, case.0)?;
+    let all = swept(alloc, tree.get(), places.as_slice(), fields, 300)?;
+    compare(rt, tree.get(), all.as_slice(), place, case);
     for cells in LENGTHS.iter() {
-        let (_, some) = swept(rt.alloc(), *text, fields, *cells)?;
+        let some = swept(alloc, tree.get(), places.as_slice(), fields, *cells)?;
         assert_eq!(rt;
             Some(some.as_slice()),
             all.as_slice().get(..*cells),
@@ -754,7 +804,7 @@ fn values(rt: HostRuntime) -> Result<(), Fail> {
     sweep_examples();
     let fields = fields(rt.alloc())?;
     for (place, case) in CASES.iter().enumerate() {
-        compare(&rt, fields.as_slice(), place, case)?;
+        compare_case(&rt, fields.as_slice(), place, case)?;
     }
     Ok(())
 }
