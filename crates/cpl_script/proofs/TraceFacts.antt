@@ -1,19 +1,24 @@
 -- The trace of a whole run has as many rows as the operations that end runs say.
-use Rattle.std.proofs.Common.{◌≡◌, ℕ, ◌+◌, Bool, true, false, List, [], ◌∷◌, length, get_or, refl, sym, ap, ◌∙◌, arith}
-use Rattle.std.specs.Prelude.{map, fold, slice_get, slice_index_or, Option, Some, None, unwrap_or, if◌then◌else◌}
-use Rattle.std.specs.List.{enumerate_from}
+use Rattle.std.proofs.Common.{◌≡◌, ℕ, ◌+◌, ◌<◌, Bool, true, false, cond, List, [], ◌∷◌, ◌++◌, length, get_or, refl, sym, ap, ◌∙◌, arith}
+use Rattle.std.specs.Prelude.{map, fold, filter, slice_get, slice_index_or, Option, Some, None, unwrap_or, if◌then◌else◌}
+use Rattle.std.specs.List.{enumerate_from, range_with_len}
 use Rattle.std.specs.Option.{option_map, option_map_or}
 use Rattle.std.proofs.lemmas.List.{length-append, length-map}
-use Rattle.std.proofs.lemmas.Option.{slice_get-map, unwrap_or-slice_get}
+use Rattle.std.proofs.lemmas.Option.{slice_get-map, slice_get_read, unwrap_or-slice_get}
+use Rattle.cpl_comp.specs.Components.{is_role}
 use Rattle.cpl_comp.specs.Readings.{EntryAnswers}
-use Rattle.cpl_comp.specs.Turns.{places_of}
+use Rattle.cpl_comp.specs.Turns.{has_role, places_of}
 use Rattle.cpl_comp.specs.declared.component.Comp.{Comp}
+use Rattle.cpl_comp.specs.declared.component.Field.{Field}
 use Rattle.cpl_comp.specs.declared.component.Role.TheVariants.{Export}
+use Rattle.cpl_sequence.specs.Operations.{operations_of}
 use Rattle.cpl_sequence.specs.RunEnds.{end_count, end_total}
 use Rattle.cpl_sequence.specs.declared.op.Op.{Op}
 use Rattle.cpl_sequence.specs.declared.op.Op.TheVariants.{Init, Link, Run}
 use Rattle.cpl_script.specs.Couplings.{Coupling}
-use Rattle.cpl_script.specs.Operations.{ops_of}
+use Rattle.cpl_script.specs.Operations.{comp_init_ops, init_ops, needed_links, ops_of}
+use Rattle.cpl_script.specs.declared.link.Link as Links
+use Rattle.cpl_script.proofs.RangeFacts.{filter-next}
 use Rattle.cpl_script.specs.SerialRun.{Total, first_total, phase_rows, rows_of, total_after, total_of, total_run, trace_row, world_after}
 use Rattle.cpl_script.specs.TraceLengths.{export_counts, trace_length}
 use Rattle.cpl_script.specs.Transfers.{World, comp_at}
@@ -59,3 +64,40 @@ total-length coupling entries k (op ∷ ops) total =
 pub length-rows : (coupling : Coupling) (entries : EntryAnswers) → length (total_run coupling entries).rows ≡ trace_length coupling
 unfolding total_of
 length-rows coupling entries = let all = total-length coupling entries 0 (ops_of coupling) (first_total coupling) in omega (arith, all)
+
+-- ---- by arithmetic
+
+-- what two lists of operations count
+end_total-append : (counts : List ℕ) (xs ys : List Op) → end_total counts (xs ++ ys) ≡ end_total counts xs + end_total counts ys
+end_total-append counts [] ys = omega arith
+end_total-append counts (x ∷ xs) ys = omega (arith, end_total-append counts xs ys)
+
+-- connectors count nothing, nor does an initialisation
+end_total-links : (counts places : List ℕ) → end_total counts (map (λ n. Link n true) places) ≡ 0
+end_total-links counts [] = refl
+end_total-links counts (n ∷ places) = omega (arith, end_total-links counts places)
+
+end_total-init : (counts : List ℕ) (comps : List Comp) (links : List Links.Link) (order : List ℕ) → end_total counts (init_ops comps links order) ≡ 0
+end_total-init counts comps links [] = refl
+end_total-init counts comps links (c ∷ order) =
+    let own = map (λ n. Link n true) (needed_links comps links c) in
+    omega (arith, end_total-append counts (comp_init_ops comps links c) (init_ops comps links order), end_total-append counts own (Init c ∷ []),
+        end_total-links counts (needed_links comps links c), end_total-init counts comps links order)
+
+-- so the trace is as long as the run sequence says
+pub trace_length-sequence : (coupling : Coupling) → trace_length coupling ≡ end_total (export_counts coupling.comps) (operations_of coupling.sequence)
+trace_length-sequence coupling =
+    let counts = export_counts coupling.comps in
+    omega (arith, end_total-append counts (init_ops coupling.comps coupling.links coupling.init) (operations_of coupling.sequence), end_total-init counts coupling.comps coupling.links coupling.init)
+
+-- one place more among those of a role
+pub places-next : (fields : List Field) (k count : ℕ) (b : Bool) → b ≡ has_role Export fields k → count ≡ length (filter (has_role Export fields) (range_with_len 0 k))
+    → count + length (cond b (k ∷ []) []) ≡ length (filter (has_role Export fields) (range_with_len 0 (k + 1)))
+places-next fields k count b is so_far =
+    let next = filter-next (has_role Export fields) k in
+    let more = ap (λ (ks : List ℕ). length ks) next ∙ length-append (filter (has_role Export fields) (range_with_len 0 k)) (cond (has_role Export fields k) (k ∷ []) []) in
+    ap (λ b. count + length (cond b (k ∷ []) [])) is ∙ ap (λ n. n + length (cond (has_role Export fields k) (k ∷ []) [])) so_far ∙ sym more
+
+-- whether the field of a place is an export
+pub export-at : (fields : List Field) (k : ℕ) (field : Field) → k < length fields → field ≡ get_or fields k field → is_role Export field.role ≡ has_role Export fields k
+export-at fields k field inside is = ap (λ o. option_map_or (λ (field : Field). is_role Export field.role) o false) (sym (slice_get_read fields (length fields) k field refl inside is))

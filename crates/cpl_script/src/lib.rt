@@ -12,6 +12,7 @@ mod outcome;
 mod parts;
 mod routes;
 mod system;
+mod tracing;
 
 pub use cpl_comp::FoundKind;
 pub use examples::{part_examples, run_examples};
@@ -21,3 +22,4 @@ pub use op_cursor::OpCursor;
 pub use outcome::{CompEnd, FieldEnd, Found, Outcome};
 pub use parts::SystemParts;
 pub use system::System;
+pub use tracing::trace_rows;
