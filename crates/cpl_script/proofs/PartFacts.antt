@@ -18,7 +18,7 @@ pub cells_of-cells : (layout : Layout) (pet : ℕ) → All (IsCell layout.grid) 
 unfolding cells_of
 cells_of-cells layout pet =
     All-filter (λ s. owner_of layout s == pet) (IsCell layout.grid) (indices layout.grid)
-        (All-range (IsCell layout.grid) 1 (cells_in layout.grid) (λ s from to. record { from_one = from; within = below_next s (cells_in layout.grid) to }))
+    (All-range (IsCell layout.grid) 1 (cells_in layout.grid) (λ s from to. record { from_one = from; within = below_next s (cells_in layout.grid) to }))
 
 -- the part of a list over cells
 pub values_part-over_cells : (layout : Layout) (pet : ℕ) (value : ℕ → ℤ) → values_part layout pet (over_cells layout value) ≡ map value (cells_of layout pet)

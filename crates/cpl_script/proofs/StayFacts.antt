@@ -36,7 +36,7 @@ pub others-after_link : (comps : List Comp) (link : Link) (at_init : Bool) (worl
     → comp_at (world_after_link comps link at_init world) c ≡ comp_at world c
 others-after_link comps link at_init world c others =
     fold-keeps_all (λ (w : World). comp_at w c ≡ comp_at world c) (λ (pair : Pair). c ≢ pair.dst) (carried comps link world)
-        (λ w pair other same. changed-other _ pair.dst c w no_comp other ∙ same) world (carried_pairs comps link at_init) others refl
+    (λ w pair other same. changed-other _ pair.dst c w no_comp other ∙ same) world (carried_pairs comps link at_init) others refl
 
 -- a pair feeds another component, or another field
 abbrev IsElsewhere : ℕ → ℕ → Pair → Type 0
@@ -45,11 +45,13 @@ IsElsewhere c k pair = (c ≢ pair.dst) ⊎ (k ≢ pair.dst_field)
 -- a component, changed at another place or so that a field stays, has that field
 field-changed : (change : CompWorld → CompWorld) (place c k : ℕ) (world : World) → ((w : CompWorld) → field_at (change w).fields k ≡ field_at w.fields k) → field_at (comp_at (changed change place world) c).fields k ≡ field_at (comp_at world c).fields k
 field-changed change place c k world stays = elim (cases_eq c place) [
-    | inl same ↦ subst (λ j. field_at (comp_at (changed change place world) j).fields k ≡ field_at (comp_at world j).fields k) (sym same)
-        (elim (cases_lt place (length world)) [
-            | inl inside ↦ ap (λ (w : CompWorld). field_at w.fields k) (changed-here change place world no_comp inside) ∙ stays (comp_at world place)
-            | inr past ↦ ap (λ (w : World). field_at (comp_at w place).fields k) (changed-past change place world past) ])
-    | inr differ ↦ ap (λ (w : CompWorld). field_at w.fields k) (changed-other change place c world no_comp differ) ]
+  | inl same ↦ subst (λ j. field_at (comp_at (changed change place world) j).fields k ≡ field_at (comp_at world j).fields k) (sym same)
+      (elim (cases_lt place (length world)) [
+        | inl inside ↦ ap (λ (w : CompWorld). field_at w.fields k) (changed-here change place world no_comp inside) ∙ stays (comp_at world place)
+        | inr past ↦ ap (λ (w : World). field_at (comp_at w place).fields k) (changed-past change place world past)
+      ])
+  | inr differ ↦ ap (λ (w : CompWorld). field_at w.fields k) (changed-other change place c world no_comp differ)
+]
 
 field-carried : (comps : List Comp) (link : Link) (before world : World) (c k : ℕ) (pair : Pair) → IsElsewhere c k pair
     → field_at (comp_at (carried comps link before world pair) c).fields k ≡ field_at (comp_at world c).fields k
@@ -61,7 +63,7 @@ pub field-after_link : (comps : List Comp) (link : Link) (at_init : Bool) (world
     → field_at (comp_at (world_after_link comps link at_init world) c).fields k ≡ field_at (comp_at world c).fields k
 field-after_link comps link at_init world c k others =
     fold-keeps_all (λ (w : World). field_at (comp_at w c).fields k ≡ field_at (comp_at world c).fields k) (IsElsewhere c k) (carried comps link world)
-        (λ w pair other same. field-carried comps link world w c k pair other ∙ same) world (carried_pairs comps link at_init) others refl
+    (λ w pair other same. field-carried comps link world w c k pair other ∙ same) world (carried_pairs comps link at_init) others refl
 
 -- ---- variables have no stamp
 
@@ -85,17 +87,19 @@ module _ (comps : List Comp) where
       → ((comp : Comp) → slice_get comps place ≡ Some comp → (k : ℕ) → has_role Var comp.fields k ≡ true → (m : CompMarks) → get_or (change m).stamps k None ≡ get_or m.stamps k None)
       → AreUnstamped comps marks → AreUnstamped comps (changed change place marks)
   unstamped-changed change place marks keeps are c comp k there var = elim (cases_eq c place) [
-      | inl same ↦ subst (λ j. slice_get comps j ≡ Some comp → stamp_in marks j k ≡ None → stamp_in (changed change place marks) j k ≡ None) (sym same)
-          (λ at_place none. elim (cases_lt place (length marks)) [
-              | inl inside ↦ ap (λ (m : CompMarks). get_or m.stamps k None) (changed-here change place marks no_marks inside) ∙ keeps comp at_place k var (get_or marks place no_marks) ∙ none
-              | inr past ↦ ap (λ (ms : List CompMarks). stamp_in ms place k) (changed-past change place marks past) ∙ none ]) there (are c comp k there var)
-      | inr differ ↦ ap (λ (m : CompMarks). get_or m.stamps k None) (changed-other change place c marks no_marks differ) ∙ are c comp k there var ]
+    | inl same ↦ subst (λ j. slice_get comps j ≡ Some comp → stamp_in marks j k ≡ None → stamp_in (changed change place marks) j k ≡ None) (sym same)
+        (λ at_place none. elim (cases_lt place (length marks)) [
+          | inl inside ↦ ap (λ (m : CompMarks). get_or m.stamps k None) (changed-here change place marks no_marks inside) ∙ keeps comp at_place k var (get_or marks place no_marks) ∙ none
+          | inr past ↦ ap (λ (ms : List CompMarks). stamp_in ms place k) (changed-past change place marks past) ∙ none
+        ]) there (are c comp k there var)
+    | inr differ ↦ ap (λ (m : CompMarks). get_or m.stamps k None) (changed-other change place c marks no_marks differ) ∙ are c comp k there var
+  ]
 
   unstamped-carried : (link : Link) (before marks : List CompMarks) (pair : Pair) → IsCarried comps link.line pair → AreUnstamped comps marks → AreUnstamped comps (marks_carried before marks pair)
   unstamped-carried link before marks pair carries are =
       unstamped-changed _ pair.dst marks
-          (λ comp there k var m. changed-other _ pair.dst_field k m.stamps None
-              (var-import comp.fields k pair.dst_field var (subst (λ o. IfSome o (λ (comp : Comp). IsTrue (has_role Import comp.fields pair.dst_field))) there carries.import))) are
+      (λ comp there k var m. changed-other _ pair.dst_field k m.stamps None
+      (var-import comp.fields k pair.dst_field var (subst (λ o. IfSome o (λ (comp : Comp). IsTrue (has_role Import comp.fields pair.dst_field))) there carries.import))) are
 
   carried-all : (link : Link) (at_init : Bool) → All (IsCarried comps link.line) link.pairs → All (IsCarried comps link.line) (carried_pairs comps link at_init)
   carried-all link true each = All-filter (is_init_pair comps) (IsCarried comps link.line) link.pairs each
@@ -104,7 +108,7 @@ module _ (comps : List Comp) where
   unstamped-link : (link : Link) (at_init : Bool) → IsConnector comps link → (marks : List CompMarks) → AreUnstamped comps marks → AreUnstamped comps (marks_after_link comps link at_init marks)
   unstamped-link link at_init is marks are =
       fold-keeps_all (AreUnstamped comps) (IsCarried comps link.line) (marks_carried marks) (λ ms pair carries now. unstamped-carried link marks ms pair carries now)
-          marks (carried_pairs comps link at_init) (carried-all link at_init is.pairs) are
+      marks (carried_pairs comps link at_init) (carried-all link at_init is.pairs) are
 
 -- a variable of a component, found twice at its place
 same-var : (comps : List Comp) (c : ℕ) (comp other : Comp) (k : ℕ) → slice_get comps c ≡ Some comp → slice_get comps c ≡ Some other → has_role Var other.fields k ≡ true → has_role Var comp.fields k ≡ true

@@ -81,8 +81,13 @@ end_total-init : (counts : List ℕ) (comps : List Comp) (links : List Links.Lin
 end_total-init counts comps links [] = refl
 end_total-init counts comps links (c ∷ order) =
     let own = map (λ n. Link n true) (needed_links comps links c) in
-    omega (arith, end_total-append counts (comp_init_ops comps links c) (init_ops comps links order), end_total-append counts own (Init c ∷ []),
-        end_total-links counts (needed_links comps links c), end_total-init counts comps links order)
+    omega (
+      arith,
+      end_total-append counts (comp_init_ops comps links c) (init_ops comps links order),
+      end_total-append counts own (Init c ∷ []),
+      end_total-links counts (needed_links comps links c),
+      end_total-init counts comps links order,
+    )
 
 -- so the trace is as long as the run sequence says
 pub trace_length-sequence : (coupling : Coupling) → trace_length coupling ≡ end_total (export_counts coupling.comps) (operations_of coupling.sequence)

@@ -56,12 +56,13 @@ module _ (comps : List Comp) where
   held-changed world place comp there held change is = record {
     size = length-changed change place world ∙ held.size;
     each = λ c other found. elim (cases_eq place c) [
-        | inl same ↦ subst (λ k. slice_get comps k ≡ Some other → AreHeld (cells_in other.decomp.grid) (length other.fields) (comp_at (changed change place world) k).fields) same
-            (λ again. from-some (λ (comp : Comp). AreHeld (cells_in comp.decomp.grid) (length comp.fields) (comp_at (changed change place world) place).fields) comp other (sym there ∙ again)
-                (subst (λ (w : CompWorld). AreHeld (cells_in comp.decomp.grid) (length comp.fields) w.fields)
-                    (sym (changed-here change place world no_comp (subst (λ n. place < n) (sym held.size) (slice_get_within comps place comp there)))) is)) found
-        | inr differ ↦ subst (λ (w : CompWorld). AreHeld (cells_in other.decomp.grid) (length other.fields) w.fields)
-            (sym (changed-other change place c world no_comp (λ same. differ (sym same)))) (held.each c other found) ];
+      | inl same ↦ subst (λ k. slice_get comps k ≡ Some other → AreHeld (cells_in other.decomp.grid) (length other.fields) (comp_at (changed change place world) k).fields) same
+          (λ again. from-some (λ (comp : Comp). AreHeld (cells_in comp.decomp.grid) (length comp.fields) (comp_at (changed change place world) place).fields) comp other (sym there ∙ again)
+          (subst (λ (w : CompWorld). AreHeld (cells_in comp.decomp.grid) (length comp.fields) w.fields)
+          (sym (changed-here change place world no_comp (subst (λ n. place < n) (sym held.size) (slice_get_within comps place comp there)))) is)) found
+      | inr differ ↦ subst (λ (w : CompWorld). AreHeld (cells_in other.decomp.grid) (length other.fields) w.fields)
+          (sym (changed-other change place c world no_comp (λ same. differ (sym same)))) (held.each c other found)
+    ];
   }
 
   -- the values of a field of a held world, none where there is no such field
@@ -103,11 +104,11 @@ module _ (comps : List Comp) (link : Link) (before : World) (held_before : IsHel
       let same : cells_in layout.grid ≡ cells_in comp.decomp.grid = ap (λ o. cells_in (option_map_or (λ (comp : Comp). comp.decomp) o no_layout).grid) there in
       let is = held.each pair.dst comp there in
       held-changed comps world pair.dst comp there held (λ w. record w { fields = changed (imported link.weights layout export) pair.dst_field w.fields })
-          (record {
-            size = length-changed (imported link.weights layout export) pair.dst_field (comp_at world pair.dst).fields ∙ is.size;
-            each = All-changed (IsHeld (cells_in comp.decomp.grid)) (imported link.weights layout export) pair.dst_field (comp_at world pair.dst).fields
-                (λ inside d field. imported-held layout (cells_in comp.decomp.grid) pair.src pair.src_field same _ field) is.each;
-          })
+      (record {
+        size = length-changed (imported link.weights layout export) pair.dst_field (comp_at world pair.dst).fields ∙ is.size;
+        each = All-changed (IsHeld (cells_in comp.decomp.grid)) (imported link.weights layout export) pair.dst_field (comp_at world pair.dst).fields
+            (λ inside d field. imported-held layout (cells_in comp.decomp.grid) pair.src pair.src_field same _ field) is.each;
+      })
 
   carried-held : (world : World) (pair : Pair) → IsHeldWorld comps world → IsHeldWorld comps (carried comps link before world pair)
   carried-held world pair held = carried-held_by world held pair (slice_get comps pair.dst) refl
@@ -122,7 +123,7 @@ module _ (coupling : Coupling) (entries : EntryAnswers) (inputs : List ℕ) (are
       let old = held.each c comp there in
       let new = held-after_init limits coupling.timing entries comp is answers (comp_at world c) old.each in
       held-changed coupling.comps world c comp there held (comp_after_init coupling.timing entries comp)
-          (record { size = new.size ∙ old.size; each = new.each })
+      (record { size = new.size ∙ old.size; each = new.each })
 
   held-phase_by : (world : World) → IsHeldWorld coupling.comps world → (c p : ℕ) (turn : Turn) (comp : Comp) → slice_get coupling.comps c ≡ Some comp → (o : Option Phase) → slice_get comp.phases p ≡ o
       → IsHeldWorld coupling.comps (option_map_or (λ phase. changed (comp_after_run coupling.timing entries comp phase turn) c world) o world)
@@ -134,7 +135,7 @@ module _ (coupling : Coupling) (entries : EntryAnswers) (inputs : List ℕ) (are
       let old = held.each c comp there in
       let new = held-after_run limits coupling.timing entries comp is answers phase phase_is turn (comp_at world c) old.each in
       held-changed coupling.comps world c comp there held (comp_after_run coupling.timing entries comp phase turn)
-          (record { size = new.size ∙ old.size; each = new.each })
+      (record { size = new.size ∙ old.size; each = new.each })
 
   held-run_by : (world : World) → IsHeldWorld coupling.comps world → (c p : ℕ) (turn : Turn) (o : Option Comp) → slice_get coupling.comps c ≡ o
       → IsHeldWorld coupling.comps (option_map_or (λ comp. option_map_or (λ phase. changed (comp_after_run coupling.timing entries comp phase turn) c world) (slice_get comp.phases p) world) o world)
@@ -160,12 +161,12 @@ module _ (coupling : Coupling) (entries : EntryAnswers) (inputs : List ℕ) (are
     each = λ c comp there.
         let inside : c < length coupling.comps = slice_get_within coupling.comps c comp there in
         let same : comp_at (first_world coupling) c ≡ first_comp comp =
-            get_or-map_inside first_comp coupling.comps c comp no_comp inside ∙ ap first_comp (get_or_from_slice_get coupling.comps c comp comp there) in
+        get_or-map_inside first_comp coupling.comps c comp no_comp inside ∙ ap first_comp (get_or_from_slice_get coupling.comps c comp comp there) in
         subst (λ (w : CompWorld). AreHeld (cells_in comp.decomp.grid) (length comp.fields) w.fields) (sym same)
-            (record {
-              size = length-map comp.fields (λ field. first_field comp.decomp);
-              each = All-map (IsHeld (cells_in comp.decomp.grid)) (λ field. first_field comp.decomp) comp.fields (λ k d inside. held-first comp.decomp);
-            });
+        (record {
+          size = length-map comp.fields (λ field. first_field comp.decomp);
+          each = All-map (IsHeld (cells_in comp.decomp.grid)) (λ field. first_field comp.decomp) comp.fields (λ k d inside. held-first comp.decomp);
+        });
   }
 
   -- and so has the world after any operations
@@ -186,9 +187,9 @@ module _ (comps : List Comp) (link : Link) (before : World) where
       let export = field_at (comp_at before pair.src).fields pair.src_field in
       let taken = imported link.weights (layout_at comps pair.dst) export in
       map-changed marks_of (λ w. record w { fields = changed taken pair.dst_field w.fields })
-          (λ marks. record marks { stamps = changed (λ stamp. export.stamp) pair.dst_field marks.stamps })
-          (λ w i. record { clock = w.clock; runs = w.runs; stamps = map-changed (λ (field : FieldWorld). field.stamp) taken (λ stamp. export.stamp) (λ field. refl) pair.dst_field w.fields i })
-          pair.dst world
+      (λ marks. record marks { stamps = changed (λ stamp. export.stamp) pair.dst_field marks.stamps })
+      (λ w i. record { clock = w.clock; runs = w.runs; stamps = map-changed (λ (field : FieldWorld). field.stamp) taken (λ stamp. export.stamp) (λ field. refl) pair.dst_field w.fields i })
+      pair.dst world
       ∙ ap (λ (given : Option ℤ). changed (λ marks. record marks { stamps = changed (λ stamp. given) pair.dst_field marks.stamps }) pair.dst (map marks_of world)) (stamp-same pair.src pair.src_field)
 
 module _ (coupling : Coupling) (entries : EntryAnswers) where

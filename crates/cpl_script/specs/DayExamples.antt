@@ -35,33 +35,33 @@ hour = Cell (read_at names.Hour (pos 0) (pos 0))
 abbrev pub mediator : Comp
 mediator =
     comp_of Mediator (flat_grid 4 3) 0 3 2 None
-        (var_of (units_rule 0)
-            ∷ import_of Next false ∷ import_of Next false ∷ import_of Unchecked true
-            ∷ export_of (sum_rule (here 3 ∷ [])) ∷ export_of (units_rule 0) ∷ [])
-        (phase_of 6 (set_of 4 (sum_rule (here 3 ∷ [])) ∷ []) []
-            ∷ keeping_phase 6 (record { field = 0; terms = (1, 2) ∷ [] } ∷ []) (set_of 5 (sum_rule (here 1 ∷ [])) ∷ [])
-            ∷ mean_phase 6 (5 ∷ []) ∷ [])
+    (var_of (units_rule 0)
+    ∷ import_of Next false ∷ import_of Next false ∷ import_of Unchecked true
+    ∷ export_of (sum_rule (here 3 ∷ [])) ∷ export_of (units_rule 0) ∷ [])
+    (phase_of 6 (set_of 4 (sum_rule (here 3 ∷ [])) ∷ []) []
+    ∷ keeping_phase 6 (record { field = 0; terms = (1, 2) ∷ [] } ∷ []) (set_of 5 (sum_rule (here 1 ∷ [])) ∷ [])
+    ∷ mean_phase 6 (5 ∷ []) ∷ [])
 
 -- an atmosphere whose flux is the hour and the number of the cell
 abbrev pub atmosphere : Comp
 atmosphere =
     comp_of Model (flat_grid 4 3) 0 2 2 None
-        (var_of (units_rule 0) ∷ import_of Current false ∷ export_of (units_rule 0) ∷ [])
-        (phase_of 3 (set_of 0 (sum_rule (here 1 ∷ [])) ∷ set_of 2 (sum_rule (hour ∷ cell_number ∷ [])) ∷ []) [] ∷ [])
+    (var_of (units_rule 0) ∷ import_of Current false ∷ export_of (units_rule 0) ∷ [])
+    (phase_of 3 (set_of 0 (sum_rule (here 1 ∷ [])) ∷ set_of 2 (sum_rule (hour ∷ cell_number ∷ [])) ∷ []) [] ∷ [])
 
 -- an ocean that gets as much warmer as it takes in
 abbrev pub ocean : Comp
 ocean =
     comp_of Model (flat_grid 6 2) 4 2 1 None
-        (import_of Current false ∷ export_of (units_rule 10) ∷ [])
-        (phase_of 2 (set_of 1 (sum_rule (here 1 ∷ here 0 ∷ [])) ∷ []) [] ∷ [])
+    (import_of Current false ∷ export_of (units_rule 10) ∷ [])
+    (phase_of 2 (set_of 1 (sum_rule (here 1 ∷ here 0 ∷ [])) ∷ []) [] ∷ [])
 
 -- ice, and how much of it there was in all
 abbrev pub ice : Comp
 ice =
     comp_of Model (flat_grid 6 2) 2 3 1 None
-        (var_of (units_rule 0) ∷ import_of Current false ∷ export_of (units_rule 0) ∷ [])
-        (phase_of 3 (set_of 0 (Native 3 (here 0 ∷ here 1 ∷ [])) ∷ set_of 2 (Native 3 (Number (pos 0) ∷ here 1 ∷ [])) ∷ []) [] ∷ [])
+    (var_of (units_rule 0) ∷ import_of Current false ∷ export_of (units_rule 0) ∷ [])
+    (phase_of 3 (set_of 0 (Native 3 (here 0 ∷ here 1 ∷ [])) ∷ set_of 2 (Native 3 (Number (pos 0) ∷ here 1 ∷ [])) ∷ []) [] ∷ [])
 
 -- ---- the system
 
@@ -84,10 +84,15 @@ phase_element phase = roll-Element (element.Run 0 phase None)
 abbrev pub hourly : Sequence
 hourly = record {
   links = lines;
-  loops = record { begin = 0; step = 3600; duration = 3600; body =
-      roll-Element (element.Loop 1800 3600
-          (phase_element 0 ∷ link_element 0 ∷ link_element 1 ∷ run_element 1 ∷ run_element 3 ∷ link_element 2 ∷ link_element 3 ∷ phase_element 1 ∷ []))
-      ∷ phase_element 2 ∷ link_element 4 ∷ run_element 2 ∷ link_element 5 ∷ [] } ∷ [];
+  loops = record {
+    begin = 0;
+    step = 3600;
+    duration = 3600;
+    body =
+        roll-Element (element.Loop 1800 3600
+        (phase_element 0 ∷ link_element 0 ∷ link_element 1 ∷ run_element 1 ∷ run_element 3 ∷ link_element 2 ∷ link_element 3 ∷ phase_element 1 ∷ []))
+        ∷ phase_element 2 ∷ link_element 4 ∷ run_element 2 ∷ link_element 5 ∷ [];
+  } ∷ [];
   span = pos 3600;
 }
 

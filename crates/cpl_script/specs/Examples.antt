@@ -121,28 +121,50 @@ set_of field rule = record { field = field; rule = rule }
 -- a phase over so many fields that assigns, and checks ranges
 abbrev pub phase_of : ℕ → List SetRow → List RangeRow → Phase
 phase_of count sets ranges = record {
-  label = []; sets = sets; merges = []; adds = []; averages = []; ranges = ranges;
+  label = [];
+  sets = sets;
+  merges = [];
+  adds = [];
+  averages = [];
+  ranges = ranges;
   halo = halo_of count (map (λ row. row.rule) sets);
 }
 
 -- a phase that merges and keeps, and one that averages
 abbrev pub keeping_phase : ℕ → List MergeRow → List SetRow → Phase
 keeping_phase count merges adds = record {
-  label = []; sets = []; merges = merges; adds = adds; averages = []; ranges = [];
+  label = [];
+  sets = [];
+  merges = merges;
+  adds = adds;
+  averages = [];
+  ranges = [];
   halo = halo_of count (map (λ row. row.rule) adds);
 }
 
 abbrev pub mean_phase : ℕ → List ℕ → Phase
 mean_phase count averages = record {
-  label = []; sets = []; merges = []; adds = []; averages = averages; ranges = []; halo = halo_of count [];
+  label = [];
+  sets = [];
+  merges = [];
+  adds = [];
+  averages = averages;
+  ranges = [];
+  halo = halo_of count [];
 }
 
 -- a component on PETs from a first one on, whose grid is cut into blocks
 abbrev pub comp_of : Kind → Grid → (first px py : ℕ) → Option ℤ → List Field → List Phase → Comp
 comp_of kind grid first px py substep fields phases = record {
-  name = []; kind = kind; first_pet = first; pets = px * py;
+  name = [];
+  kind = kind;
+  first_pet = first;
+  pets = px * py;
   decomp = record { grid = grid; px = px; py = py; first_pet = first };
-  substep = substep; fields = fields; phases = phases; start_halo = halo_of (length fields) (start_rules fields);
+  substep = substep;
+  fields = fields;
+  phases = phases;
+  start_halo = halo_of (length fields) (start_rules fields);
 }
 
 -- a grid whose columns end at edges
@@ -179,8 +201,10 @@ ended done comps = record { done = done; comps = comps; fault = None; trace = []
 
 abbrev pub stopped : (op component place : ℕ) → FoundKind → List ℕ → Outcome
 stopped op component place kind runs = record {
-  done = op; comps = map (λ n. end_of n 0 []) runs;
-  fault = Some (record { code = op * op_factor + place; component = component; kind = kind }); trace = [];
+  done = op;
+  comps = map (λ n. end_of n 0 []) runs;
+  fault = Some (record { code = op * op_factor + place; component = component; kind = kind });
+  trace = [];
 }
 
 -- ---- systems
@@ -188,8 +212,15 @@ stopped op component place kind runs = record {
 -- parts on so many PETs that start with the year 2000, without alarms
 abbrev pub parts_with : List Comp → Sequence → List Pair → List ℕ → List (Option Table) → ℕ → SystemParts
 parts_with comps sequence pairs init weights pets = record {
-  comps = comps; seq = sequence; pairs = pairs; init = init; weights = weights;
-  cal = NoLeap; start = pos 63072000000; alarms = []; pets = pets;
+  comps = comps;
+  seq = sequence;
+  pairs = pairs;
+  init = init;
+  weights = weights;
+  cal = NoLeap;
+  start = pos 63072000000;
+  alarms = [];
+  pets = pets;
 }
 
 -- a connector's line
@@ -199,7 +230,9 @@ line_of method src dst = record { src = src; dst = dst; method = method; file = 
 -- one loop of steps of a second, with the first phase of each of these components
 abbrev pub one_loop : List LinkLine → ℕ → List Element → Sequence
 one_loop links seconds body = record {
-  links = links; loops = record { begin = 0; step = 1; duration = seconds; body = body } ∷ []; span = pos seconds;
+  links = links;
+  loops = record { begin = 0; step = 1; duration = seconds; body = body } ∷ [];
+  span = pos seconds;
 }
 
 -- a connector and the first phase of a component, as elements of a loop
@@ -268,7 +301,7 @@ source grid start rule = comp_of Model grid 0 1 1 None (export_of start ∷ []) 
 abbrev pub summing : Wanted → Comp
 summing wanted =
     comp_of Model (flat_grid 1 1) 0 1 1 None (var_of (units_rule 0) ∷ import_of wanted false ∷ [])
-        (phase_of 2 (set_of 0 (sum_rule (here 0 ∷ here 1 ∷ [])) ∷ []) [] ∷ [])
+    (phase_of 2 (set_of 0 (sum_rule (here 0 ∷ here 1 ∷ [])) ∷ []) [] ∷ [])
 
 -- the pair of the two
 abbrev pub only_pair : Pair
@@ -278,8 +311,8 @@ only_pair = record { src = 0; src_field = 0; dst = 1; dst_field = 1 }
 abbrev pub two_of : Comp → Wanted → Method → Option Table → Coupling
 two_of first wanted method weights =
     coupling_of (parts_with (first ∷ summing wanted ∷ [])
-        (one_loop (line_of method 0 1 ∷ []) 3 (link_element 0 ∷ run_element 0 ∷ run_element 1 ∷ []))
-        (only_pair ∷ []) (0 ∷ 1 ∷ []) (weights ∷ []) 1)
+    (one_loop (line_of method 0 1 ∷ []) 3 (link_element 0 ∷ run_element 0 ∷ run_element 1 ∷ []))
+    (only_pair ∷ []) (0 ∷ 1 ∷ []) (weights ∷ []) 1)
 
 -- by equal index, from one cell to one
 abbrev pub counted : Wanted → Coupling

@@ -49,8 +49,8 @@ marks_after_link comps link at_init marks = fold (marks_carried marks) marks (ca
 abbrev pub marks_after_phase : Coupling → List CompMarks → (component phase : ℕ) → Turn → List CompMarks
 marks_after_phase coupling marks component phase turn =
     option_map_or
-        (λ comp. option_map_or (λ p. changed (marks_after_run comp p turn) component marks) (slice_get comp.phases phase) marks)
-        (slice_get coupling.comps component) marks
+    (λ comp. option_map_or (λ p. changed (marks_after_run comp p turn) component marks) (slice_get comp.phases phase) marks)
+    (slice_get coupling.comps component) marks
 
 -- the marks of all components after an operation
 abbrev pub marks_after : Coupling → List CompMarks → Op → List CompMarks

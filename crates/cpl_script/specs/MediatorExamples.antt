@@ -18,14 +18,14 @@ use Rattle.cpl_script.specs.Systems.{coupling_of}
 abbrev pub averaging : Comp
 averaging =
     comp_of Mediator (flat_grid 1 1) 0 1 1 None (var_of (units_rule 0) ∷ import_of Current false ∷ [])
-        (keeping_phase 2 [] (set_of 0 (sum_rule (here 1 ∷ [])) ∷ []) ∷ mean_phase 2 (0 ∷ []) ∷ [])
+    (keeping_phase 2 [] (set_of 0 (sum_rule (here 1 ∷ [])) ∷ []) ∷ mean_phase 2 (0 ∷ []) ∷ [])
 
 -- a model that doubles what it exports, from 1 on, and this mediator
 abbrev pub doubled : Coupling
 doubled =
     coupling_of (parts_with (source (flat_grid 1 1) (units_rule 1) (sum_rule (here 0 ∷ here 0 ∷ [])) ∷ averaging ∷ [])
-        (one_loop (line_of Redist 0 1 ∷ []) 3 (link_element 0 ∷ run_element 1 ∷ run_element 0 ∷ []))
-        (only_pair ∷ []) (0 ∷ 1 ∷ []) (None ∷ []) 1)
+    (one_loop (line_of Redist 0 1 ∷ []) 3 (link_element 0 ∷ run_element 1 ∷ run_element 0 ∷ []))
+    (only_pair ∷ []) (0 ∷ 1 ∷ []) (None ∷ []) 1)
 
 -- three steps of connector, mediator and model, and then the mean
 abbrev pub keep_three : List Op
@@ -43,14 +43,14 @@ mean_twice =
 abbrev pub merging : Wanted → Comp
 merging wanted =
     comp_of Mediator (flat_grid 1 1) 0 1 1 None (import_of wanted false ∷ export_of (units_rule 0) ∷ export_of (units_rule 7) ∷ [])
-        (keeping_phase 3 (record { field = 1; terms = (0, 0) ∷ (0, 1) ∷ [] } ∷ []) [] ∷ mean_phase 3 [] ∷ [])
+    (keeping_phase 3 (record { field = 1; terms = (0, 0) ∷ (0, 1) ∷ [] } ∷ []) [] ∷ mean_phase 3 [] ∷ [])
 
 -- a model that exports one and a half, and this mediator
 abbrev pub merged : Wanted → Coupling
 merged wanted =
     coupling_of (parts_with (source (flat_grid 1 1) (sum_rule (Number (pos 1500000) ∷ [])) (sum_rule (here 0 ∷ [])) ∷ merging wanted ∷ [])
-        (one_loop (line_of Redist 0 1 ∷ []) 1 (link_element 0 ∷ run_element 1 ∷ []))
-        (record { src = 0; src_field = 0; dst = 1; dst_field = 0 } ∷ []) (0 ∷ 1 ∷ []) (None ∷ []) 1)
+    (one_loop (line_of Redist 0 1 ∷ []) 1 (link_element 0 ∷ run_element 1 ∷ []))
+    (record { src = 0; src_field = 0; dst = 1; dst_field = 0 } ∷ []) (0 ∷ 1 ∷ []) (None ∷ []) 1)
 
 -- Runs with a mediator.
 pub record MediatorExamples : Type 0 where
@@ -66,14 +66,14 @@ pub record MediatorExamples : Type 0 where
   -- 1.5 times 1.5, and 1.5 times the old value of what is merged; the phase stamps this export with its time and no other
   pub merge : outcome_of (merged Current) entries (Init 0 ∷ Init 1 ∷ Link 0 false ∷ run_at 1 0 0 1 ∷ run_at 1 0 0 1 ∷ []) false
       ≡ ended 5 (end_of 0 0 (same_end (Some (pos 0)) 1 (pos 1500000) ∷ [])
-          ∷ end_of 2 0 (same_end (Some (pos 0)) 1 (pos 1500000) ∷ same_end (Some (pos 0)) 1 (pos 5625000) ∷ same_end (Some (pos 0)) 1 (units 7) ∷ []) ∷ [])
+      ∷ end_of 2 0 (same_end (Some (pos 0)) 1 (pos 1500000) ∷ same_end (Some (pos 0)) 1 (pos 5625000) ∷ same_end (Some (pos 0)) 1 (units 7) ∷ []) ∷ [])
   -- a mediator's clock isn't checked, and follows the time of its phase; its other export keeps the stamp of its initialisation
   pub stamps : outcome_of (merged Unchecked) entries (Init 0 ∷ Init 1 ∷ Link 0 false ∷ run_at 1 0 5 1 ∷ []) false
       ≡ ended 4 (end_of 0 0 (same_end (Some (pos 0)) 1 (pos 1500000) ∷ [])
-          ∷ end_of 1 5 (same_end (Some (pos 0)) 1 (pos 1500000) ∷ same_end (Some (pos 5)) 1 (pos 2250000) ∷ same_end (Some (pos 0)) 1 (units 7) ∷ []) ∷ [])
+      ∷ end_of 1 5 (same_end (Some (pos 0)) 1 (pos 1500000) ∷ same_end (Some (pos 5)) 1 (pos 2250000) ∷ same_end (Some (pos 0)) 1 (units 7) ∷ []) ∷ [])
   -- an import that a phase doesn't read isn't checked
   pub unread : outcome_of (merged Current) entries (Init 0 ∷ Init 1 ∷ run_at 1 1 5 1 ∷ []) false
       ≡ ended 3 (end_of 0 0 (same_end (Some (pos 0)) 1 (pos 1500000) ∷ [])
-          ∷ end_of 1 5 (same_end None 1 (pos 0) ∷ same_end (Some (pos 0)) 1 (pos 0) ∷ same_end (Some (pos 0)) 1 (units 7) ∷ []) ∷ [])
+      ∷ end_of 1 5 (same_end None 1 (pos 0) ∷ same_end (Some (pos 0)) 1 (pos 0) ∷ same_end (Some (pos 0)) 1 (units 7) ∷ []) ∷ [])
   pub read : outcome_of (merged Current) entries (Init 0 ∷ Init 1 ∷ run_at 1 0 5 1 ∷ []) false
       ≡ stopped 2 1 1 (kinds.Import 0 None (pos 5)) (0 ∷ 0 ∷ [])

@@ -31,14 +31,14 @@ giver = comp_of Model (flat_grid 5 1) 0 3 1 None (export_of (sum_rule (cell_numb
 abbrev pub taker : Comp
 taker =
     comp_of Model (flat_grid 5 1) 1 2 1 None (var_of (units_rule 0) ∷ import_of Current false ∷ [])
-        (phase_of 2 (set_of 0 (sum_rule (here 1 ∷ [])) ∷ []) (record { field = 1; low = pos 0; high = units 3 } ∷ []) ∷ [])
+    (phase_of 2 (set_of 0 (sum_rule (here 1 ∷ [])) ∷ []) (record { field = 1; low = pos 0; high = units 3 } ∷ []) ∷ [])
 
 -- the two with their connector
 abbrev pub spread : Coupling
 spread =
     coupling_of (parts_with (giver ∷ taker ∷ [])
-        (one_loop (line_of Redist 0 1 ∷ []) 1 (link_element 0 ∷ run_element 0 ∷ run_element 1 ∷ []))
-        (only_pair ∷ []) (0 ∷ 1 ∷ []) (None ∷ []) 3)
+    (one_loop (line_of Redist 0 1 ∷ []) 1 (link_element 0 ∷ run_element 0 ∷ run_element 1 ∷ []))
+    (only_pair ∷ []) (0 ∷ 1 ∷ []) (None ∷ []) 3)
 
 -- its operations up to the connector, and behind it
 abbrev pub before_link : List Op
@@ -72,9 +72,9 @@ pub record PartExamples : Type 0 where
 abbrev pub ring : Coupling
 ring =
     coupling_of (parts_with
-        (comp_of Model (record { nx = 3; ny = 1; periodic = true }) 0 3 1 None (var_of (sum_rule (cell_number ∷ [])) ∷ [])
-            (phase_of 1 (set_of 0 (sum_rule (beside 0 (pos 1) ∷ beside 0 (negsuc 1) ∷ [])) ∷ []) [] ∷ []) ∷ [])
-        (one_loop [] 1 (run_element 0 ∷ [])) [] (0 ∷ []) [] 3)
+    (comp_of Model (record { nx = 3; ny = 1; periodic = true }) 0 3 1 None (var_of (sum_rule (cell_number ∷ [])) ∷ [])
+    (phase_of 1 (set_of 0 (sum_rule (beside 0 (pos 1) ∷ beside 0 (negsuc 1) ∷ [])) ∷ []) [] ∷ []) ∷ [])
+    (one_loop [] 1 (run_element 0 ∷ [])) [] (0 ∷ []) [] 3)
 
 -- Routes and parcels of a halo.
 pub record HaloExamples : Type 0 where

@@ -65,11 +65,11 @@ parcel_of coupling world (Init component) from to =
     halo_parcel_at coupling world component None (cells_for coupling (Init component) from to)
 parcel_of coupling world (Link link at_init) from to =
     option_map_or
-        (λ line. link_parcel (carried_pairs coupling.comps line at_init) world (cells_between line.route from to))
-        (slice_get coupling.links link) []
+    (λ line. link_parcel (carried_pairs coupling.comps line at_init) world (cells_between line.route from to))
+    (slice_get coupling.links link) []
 parcel_of coupling world (Run component phase time step at substep first last) from to =
     halo_parcel_at coupling world component (Some phase)
-        (cells_between (halo_route_at coupling component (Some phase)) from to)
+    (cells_between (halo_route_at coupling component (Some phase)) from to)
 
 -- ---- shares
 
@@ -90,6 +90,6 @@ share_of coupling entries world pet (Init component) = []
 share_of coupling entries world pet (Link link at_init) = []
 share_of coupling entries world pet (Run component phase time step at substep first last) =
     option_map_or
-        (λ comp. filter (is_share comp pet) (phase_faults coupling entries world component phase
-            (record { time = time; step = step; at = at; substep = substep; first = first; last = last })))
-        (slice_get coupling.comps component) []
+    (λ comp. filter (is_share comp pet) (phase_faults coupling entries world component phase
+    (record { time = time; step = step; at = at; substep = substep; first = first; last = last })))
+    (slice_get coupling.comps component) []

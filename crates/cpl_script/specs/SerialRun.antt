@@ -37,8 +37,8 @@ world_after_init coupling entries world component =
 abbrev pub world_after_run : Coupling → EntryAnswers → World → (component phase : ℕ) → Turn → World
 world_after_run coupling entries world component phase turn =
     option_map_or
-        (λ comp. option_map_or (λ p. changed (comp_after_run coupling.timing entries comp p turn) component world) (slice_get comp.phases phase) world)
-        (slice_get coupling.comps component) world
+    (λ comp. option_map_or (λ p. changed (comp_after_run coupling.timing entries comp p turn) component world) (slice_get comp.phases phase) world)
+    (slice_get coupling.comps component) world
 
 -- the world after an operation
 abbrev pub world_after : Coupling → EntryAnswers → World → Op → World
@@ -47,7 +47,7 @@ world_after coupling entries world (Link link at_init) =
     option_map_or (λ line. world_after_link coupling.comps line at_init world) (slice_get coupling.links link) world
 world_after coupling entries world (Run component phase time step at substep first last) =
     world_after_run coupling entries world component phase
-        (record { time = time; step = step; at = at; substep = substep; first = first; last = last })
+    (record { time = time; step = step; at = at; substep = substep; first = first; last = last })
 
 -- the world after operations from the start on
 unfoldable pub world_of : Coupling → EntryAnswers → List Op → World
@@ -71,11 +71,11 @@ found_in op component fault = record { code = op * op_factor + fault.place; comp
 abbrev pub phase_faults : Coupling → EntryAnswers → World → (component phase : ℕ) → Turn → List Fault
 phase_faults coupling entries world component phase turn =
     option_map_or
-        (λ comp. option_map_or
-            (λ p. run_faults comp p turn (is_connected coupling component) (comp_at world component)
-                (fields_after_run coupling.timing entries comp p turn (comp_at world component).fields))
-            (slice_get comp.phases phase) [])
-        (slice_get coupling.comps component) []
+    (λ comp. option_map_or
+    (λ p. run_faults comp p turn (is_connected coupling component) (comp_at world component)
+    (fields_after_run coupling.timing entries comp p turn (comp_at world component).fields))
+    (slice_get comp.phases phase) [])
+    (slice_get coupling.comps component) []
 
 -- what the operation of a number finds amiss in a world, in rising numbers: runs alone check anything
 abbrev pub found_by : Coupling → EntryAnswers → World → ℕ → Op → List Found
@@ -83,7 +83,7 @@ found_by coupling entries world k (Init component) = []
 found_by coupling entries world k (Link link at_init) = []
 found_by coupling entries world k (Run component phase time step at substep first last) =
     map (found_in k component) (phase_faults coupling entries world component phase
-        (record { time = time; step = step; at = at; substep = substep; first = first; last = last }))
+    (record { time = time; step = step; at = at; substep = substep; first = first; last = last }))
 
 -- ---- the ends of fields
 
@@ -142,8 +142,8 @@ trace_row op component phase layout fields k = record {
 abbrev pub phase_rows : Coupling → World → (op component phase : ℕ) → List TraceRow
 phase_rows coupling world op component phase =
     option_map_or
-        (λ comp. map (trace_row op component phase comp.decomp (comp_at world component).fields) (places_of Export comp.fields))
-        (slice_get coupling.comps component) []
+    (λ comp. map (trace_row op component phase comp.decomp (comp_at world component).fields) (places_of Export comp.fields))
+    (slice_get coupling.comps component) []
 
 -- the rows of the operation of a number, given the world after it
 abbrev pub rows_of : Coupling → World → ℕ → Op → List TraceRow

@@ -12,7 +12,7 @@ loop-place-preserved c =
     let few = c.loop-place.invariant.few in
     let none : count ≡ count + 0 = omega arith in
     elim c.if-is_export.branch [
-      then-is_export w ↦ record {
+      | then-is_export w ↦ record {
         counted = w.count-is ∙ places-next fields place count true (sym w.if-is_export.true ∙ here) c.loop-place.invariant.counted;
         few = omega (arith, few, w.count-is);
       }
