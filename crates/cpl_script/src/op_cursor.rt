@@ -53,7 +53,8 @@ impl OpCursor {
     pub fn next(&mut self, system: &System) -> Option<Op>
         requires { IsOpCursorOf system.now self.old }
         ensures of { IsOpCursorOf system.now self.new }
-        ensures gives { MatchOption result ((op_remainder system.now self.old ≡ []) × (op_remainder system.now self.new ≡ [])) (λ op. op_remainder system.now self.old ≡ op ∷ op_remainder system.now self.new) }
+        ensures gives { MatchOption result ((op_remainder system.now self.old ≡ []) × (op_remainder system.now self.new ≡ []))
+            (λ op. op_remainder system.now self.old ≡ op ∷ op_remainder system.now self.new) }
         // The k-th call gives the k-th operation, from 0.
         ensures in_order { (k : ℕ) → op_remainder system.now self.old ≡ drop k (ops_of system.now)
             → (result ≡ slice_get (ops_of system.now) k) × (op_remainder system.now self.new ≡ drop (k + 1) (ops_of system.now)) }

@@ -63,9 +63,24 @@ impl Model for System {
 
     ghost coded = { Prim.hlevel (codes, formula.the_row.coded, element.the_row.coded) };
 
-    ghost view = { λ system. record { comps = system.comps; links = system.links; init = system.init; sequence = system.seq; timing = record { cal = system.cal; start = system.start; alarms = system.alarms }; pets = system.pets } };
+    ghost view = { λ system. record {
+      comps = system.comps;
+      links = system.links;
+      init = system.init;
+      sequence = system.seq;
+      timing = record { cal = system.cal; start = system.start; alarms = system.alarms };
+      pets = system.pets;
+    } };
 
-    ghost invariant = { λ system. IsKept (record { comps = system.comps; links = system.links; init = system.init; sequence = system.seq; timing = record { cal = system.cal; start = system.start; alarms = system.alarms }; pets = system.pets }) system.halos.items system.init_ops.items };
+    ghost invariant = { λ system. IsKept (record {
+      comps = system.comps;
+      links = system.links;
+      init = system.init;
+      sequence = system.seq;
+      timing = record { cal = system.cal; start = system.start; alarms = system.alarms };
+      pets = system.pets;
+    })
+        system.halos.items system.init_ops.items };
 }
 
 impl System {
