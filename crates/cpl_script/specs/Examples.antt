@@ -3,7 +3,7 @@ use Rattle.std.specs.Prelude.{◌≡◌, ℕ, ◌*◌, ◌+◌, ◌-◌, ◌^◌
 use Rattle.std.specs.Int.{int_max, int_min}
 use Rattle.std.specs.List.{flat_map, range_with_len}
 use Rattle.cpl_base.specs.Numbers.{clip, million}
-use Rattle.cpl_base.specs.Rounding.{product_of}
+use Rattle.cpl_base.specs.Rounding.{product_of, quotient_of}
 use Rattle.cpl_calendar.specs.declared.calendar.Cal.TheVariants.{NoLeap}
 use Rattle.cpl_comp.specs.Halos.{halo_of}
 use Rattle.cpl_comp.specs.Readings.{EntryAnswers}
@@ -17,7 +17,7 @@ use Rattle.cpl_comp.specs.declared.component.Phase.{Phase}
 use Rattle.cpl_comp.specs.declared.component.RangeRow.{RangeRow}
 use Rattle.cpl_comp.specs.declared.component.Role.TheVariants.{Var, Import, Export}
 use Rattle.cpl_comp.specs.declared.component.Rule.{Rule}
-use Rattle.cpl_comp.specs.declared.component.Rule.TheVariants.{Native}
+use Rattle.cpl_comp.specs.declared.component.Rule.TheVariants.{Plain, Native}
 use Rattle.cpl_comp.specs.declared.component.SetRow.{SetRow}
 use Rattle.cpl_comp.specs.declared.component.Wanted.{Wanted}
 use Rattle.cpl_comp.specs.declared.component.Wanted.TheVariants.{Current, Next, Unchecked}
@@ -26,6 +26,9 @@ use Rattle.cpl_comp.specs.declared.found.FoundKind.TheVariants as kinds
 use Rattle.cpl_formula.specs.Reads.{read_at}
 use Rattle.cpl_formula.specs.declared.arguments.Argument.{Argument}
 use Rattle.cpl_formula.specs.declared.arguments.Argument.TheVariants.{Number, Cell}
+use Rattle.cpl_formula.specs.Tree.{choice_of}
+use Rattle.cpl_formula.specs.declared.formula.Formula.{Formula, roll-Formula}
+use Rattle.cpl_formula.specs.declared.formula.Formula.TheOpen as tree
 use Rattle.cpl_formula.specs.declared.formula.ReadName.TheVariants as names
 use Rattle.cpl_grid.specs.declared.grid.Grid.{Grid}
 use Rattle.cpl_match.specs.declared.port.Pair.{Pair}
@@ -80,9 +83,19 @@ abbrev pub ice_entry : List ℤ → ℤ
 ice_entry (a ∷ b ∷ []) = clip (a +ℤ ice_at b)
 ice_entry inputs = pos 0
 
+-- half of the input, and the input
+abbrev pub half_more_entry : List ℤ → ℤ
+half_more_entry (a ∷ []) = clip (quotient_of a (units 2) +ℤ a)
+half_more_entry inputs = pos 0
+
+-- 9 for 1, 10 for 2, 0 for 3 and 10 above
+abbrev pub four_entry : List ℤ → ℤ
+four_entry (s ∷ []) = choice_of (units 2 -ℤ s) (units 9) (choice_of (s -ℤ units 3) (units 10) (choice_of (s -ℤ units 2) (pos 0) (units 10)))
+four_entry inputs = pos 0
+
 -- the entries of the examples
 abbrev pub entries : EntryAnswers
-entries = sum_entry ∷ relax_entry ∷ product_entry ∷ ice_entry ∷ []
+entries = sum_entry ∷ relax_entry ∷ product_entry ∷ ice_entry ∷ half_more_entry ∷ four_entry ∷ []
 
 -- a field at the cell itself, and beside it
 abbrev pub here : ℕ → Argument
@@ -268,6 +281,21 @@ half_steps =
 abbrev pub counting : Rule
 counting = sum_rule (here 0 ∷ Number (units 1) ∷ [])
 
+-- the same as a formula
+abbrev pub plus_one : Rule
+plus_one = Plain (record {
+  tree = roll-Formula (tree.Plus (roll-Formula (tree.Input 0)) (roll-Formula (tree.Number (units 1))));
+  reads = read_at (names.Field 0) (pos 0) (pos 0) ∷ [];
+})
+
+-- values from 0 to ten units
+abbrev pub to_ten : List RangeRow
+to_ten = record { field = 0; low = pos 0; high = units 10 } ∷ []
+
+-- one cell
+abbrev pub one_cell : Grid
+one_cell = flat_grid 1 1
+
 -- Runs of one model.
 pub record ModelExamples : Type 0 where
   -- three steps, each by one
@@ -288,9 +316,15 @@ pub record ModelExamples : Type 0 where
   -- the greatest value
   pub clipped : outcome_of (one_var (flat_grid 1 1) None (units_rule 100000) (Native 2 (here 0 ∷ here 0 ∷ [])) []) entries (steps_of 1) false
       ≡ ended 2 (end_of 1 1 (same_end None 1 (units 1000000000) ∷ []) ∷ [])
-  -- of values out of range in two steps the first, at the first of its cells: cell 2 of 0, 11, 0, 12
-  pub range : outcome_of (one_var (flat_grid 4 1) None (sum_rule (cell_number ∷ [])) (Native 2 (here 0 ∷ Number (units 4) ∷ [])) (record { field = 0; low = pos 0; high = units 8 } ∷ [])) entries (steps_of 2) false
-      ≡ stopped 1 0 (129 + 16) (kinds.Range 0 3 (units 12) (pos 0) (units 8)) (0 ∷ [])
+  -- a negative half goes up: minus a millionth, halved, is 0, and stays minus a millionth with what it was
+  pub halved : outcome_of (one_var one_cell None (sum_rule (Number (negsuc 0) ∷ [])) (Native 4 (here 0 ∷ [])) []) entries (steps_of 1) false
+      ≡ ended 2 (end_of 1 1 (same_end None 1 (negsuc 0) ∷ []) ∷ [])
+  -- 9, 10, 0 and 10 become 10, 11, 1 and 11, and 11 is too much: cell 2 has the first fault, in the first step; cell 1 is over in the second
+  pub range : outcome_of (one_var (flat_grid 4 1) None (Native 5 (cell_number ∷ [])) counting to_ten) entries (steps_of 2) false
+      ≡ stopped 1 0 (129 + 8) (kinds.Range 0 2 (units 11) (pos 0) (units 10)) (0 ∷ [])
+  -- a formula, beside the native entry above
+  pub formula : outcome_of (one_var one_cell None (units_rule 0) plus_one []) entries (steps_of 1) false
+      ≡ ended 2 (end_of 1 1 (same_end None 1 (units 1) ∷ []) ∷ [])
 
 -- ---- two models
 
@@ -317,6 +351,16 @@ two_of first wanted method weights =
 -- by equal index, from one cell to one
 abbrev pub counted : Wanted → Coupling
 counted wanted = two_of (source (flat_grid 1 1) (units_rule 0) counting) wanted Redist None
+
+-- by equal index, from five cells on PETs 0 to 2 to five on PETs 1 and 2
+abbrev pub spread_counting : Coupling
+spread_counting =
+    coupling_of (parts_with
+    (comp_of Model (flat_grid 5 1) 0 3 1 None (export_of (units_rule 0) ∷ []) (phase_of 1 (set_of 0 counting ∷ []) [] ∷ [])
+    ∷ comp_of Model (flat_grid 5 1) 1 2 1 None (var_of (units_rule 0) ∷ import_of Current false ∷ [])
+        (phase_of 2 (set_of 0 (sum_rule (here 0 ∷ here 1 ∷ [])) ∷ []) [] ∷ []) ∷ [])
+    (one_loop (line_of Redist 0 1 ∷ []) 3 (link_element 0 ∷ run_element 0 ∷ run_element 1 ∷ []))
+    (only_pair ∷ []) (0 ∷ 1 ∷ []) (None ∷ []) 3)
 
 -- three cells of a millionth, each of which counts a third
 abbrev pub thirds : Table
@@ -353,6 +397,9 @@ pub record LinkExamples : Type 0 where
   -- the trace has a row for each run of the first, and stops before the operation of a fault
   pub traced : (outcome_of (counted Current) entries link_first true).trace ≡ export_row 3 1 ∷ export_row 6 2 ∷ export_row 9 3 ∷ []
   pub traced_to_fault : (outcome_of (counted Current) entries link_between true).trace ≡ export_row 2 1 ∷ []
+  -- five cells of two models on other PETs: as one cell, five times
+  pub five_cells : outcome_of spread_counting entries link_first false
+      ≡ ended 11 (end_of 3 3 (same_end (Some (pos 3)) 5 (units 3) ∷ []) ∷ end_of 3 3 (same_end None 5 (units 3) ∷ same_end (Some (pos 2)) 5 (units 2) ∷ []) ∷ [])
   -- three thirds of a millionth, rounded once
   pub thirds_sum : outcome_of weighted entries link_first false
       ≡ ended 11 (end_of 3 3 (record { stamp = Some (pos 3); low = pos 1; high = pos 1; sum = pos 3 } ∷ []) ∷ end_of 3 3 (same_end None 1 (pos 3) ∷ same_end (Some (pos 2)) 1 (pos 1) ∷ []) ∷ [])

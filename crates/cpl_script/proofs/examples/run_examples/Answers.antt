@@ -3,6 +3,7 @@ use Rattle.std.proofs.Common.{refl}
 use Rattle.cpl_calendar.specs.Parts.{month_day, parts_at}
 use Rattle.cpl_comp.specs.Halos.{halo_of}
 use Rattle.cpl_comp.specs.Worlds.{active_cells, over_cells}
+use Rattle.cpl_formula.proofs.ValuesFacts.{values}
 use Rattle.cpl_grid.specs.Blocks.{block_start}
 use Rattle.cpl_grid.specs.Grid.{column_at, nearest_number, neighbour_of, ring_number, row_at}
 use Rattle.cpl_grid.specs.Owners.{cells_of, owner_of}
@@ -21,7 +22,9 @@ returns-clause-model c = record {
   neighbours = refl;
   relaxed = refl;
   clipped = refl;
+  halved = refl;
   range = refl;
+  formula = simp values;
 }
 
 pub returns-clause-links : goal.returns-clause-links
@@ -34,6 +37,7 @@ returns-clause-links c = record {
   unstamped = refl;
   traced = refl;
   traced_to_fault = refl;
+  five_cells = refl;
   thirds_sum = refl;
 }
 
