@@ -1,0 +1,5 @@
+pub mod Aims
+pub mod Frames
+pub mod Laws
+pub mod Rings
+pub mod Totals
