@@ -1,9 +1,9 @@
 -- Where the values of a parcel go.
-use Rattle.std.proofs.Common.{◌≡◌, ℕ, zero, suc, ◌+◌, ◌<◌, ◌≤◌, Bool, true, false, cond, ◌&&◌, eqb, not, ◌⊎◌, List, [], ◌∷◌, ◌++◌, ℤ, pos, filter, get_or, length, map, Some, refl, sym, ap, subst, ◌∙◌, inl, inr, arith, length-append}
-use Rattle.std.proofs.lemmas.Bool.{and_parts, cases_Bool, cases_eq, cases_lt, eq-eqb, ne_eqb}
+use Rattle.std.proofs.Common.{◌≡◌, ℕ, ◌+◌, ◌<◌, ◌≤◌, Bool, true, false, cond, eqb, ◌⊎◌, List, [], ◌∷◌, ◌++◌, ℤ, pos, filter, get_or, length, Some, refl, sym, ap, subst, ◌∙◌, inl, inr, arith, length-append}
+use Rattle.std.proofs.lemmas.Bool.{and_parts, cases_Bool, cases_eq, cases_lt, ne_eqb}
 use Rattle.std.proofs.lemmas.List.{append-nil, get_or-map}
 use Rattle.std.proofs.lemmas.List.Elements.{All-from_get_or, All-get_or}
-use Rattle.std.proofs.lemmas.List.Folds.{list_any_at, list_any_none}
+use Rattle.std.proofs.lemmas.List.Folds.{list_any_none}
 use Rattle.std.proofs.Math.ListN.{get_or-append}
 use Rattle.std.proofs.Math.Seq.{get_or-append_seam}
 use Rattle.std.proofs.lemmas.List.Sorted.{searched}
@@ -21,7 +21,7 @@ use Rattle.cpl_block.specs.Frames.{IsOwn, is_ours, is_own, places_in, stands_for
 use Rattle.cpl_block.specs.Rings.{is_far}
 use Rattle.cpl_block.specs.declared.aim.Aim.{Aim}
 use Rattle.cpl_block.specs.declared.frame.Frame.{Frame}
-use Rattle.cpl_block.proofs.ListFacts.{IsFound, IsKept, behind_too, filter-more, found_behind, found-of, kept-of}
+use Rattle.cpl_block.proofs.ListFacts.{IsFound, behind_too, found_behind, found-of, kept-of}
 use Rattle.cpl_block.proofs.RingFacts.{far-other, list_more, true_false}
 
 -- the first so many places are noted
@@ -65,13 +65,13 @@ missed-in cells s k r is ascending missed =
 pub aimed-one : (frame : Frame) (cells : List ℕ) (place k : ℕ) (old new : Aim) → is_aimed frame cells place ≡ true → IsPlacedIn cells (stands_for frame place) k → new.to.items ≡ old.to.items ++ place ∷ [] → new.from.items ≡ old.from.items ++ k ∷ [] → IsAimedMore frame cells place old new
 aimed-one frame cells place k old new aimed placed to from = record {
   to = to ∙ ap (λ b. old.to.items ++ cond b (place ∷ []) []) (sym aimed);
-  from = (k, (from ∙ ap (λ b. old.from.items ++ cond b (k ∷ []) []) (sym aimed), λ is. placed));
+  from = record { k = k; is = from ∙ ap (λ b. old.from.items ++ cond b (k ∷ []) []) (sym aimed); placed = λ is. placed };
 }
 
 pub aimed-none : (frame : Frame) (cells : List ℕ) (place : ℕ) (old : Aim) → is_aimed frame cells place ≡ false → IsAimedMore frame cells place old old
 aimed-none frame cells place old other = record {
   to = sym (append-nil old.to.items) ∙ ap (λ b. old.to.items ++ cond b (place ∷ []) []) (sym other);
-  from = (0, (sym (append-nil old.from.items) ∙ ap (λ b. old.from.items ++ cond b (0 ∷ []) []) (sym other), λ is. absurd (true_false _ is other)));
+  from = record { k = 0; is = sym (append-nil old.from.items) ∙ ap (λ b. old.from.items ++ cond b (0 ∷ []) []) (sym other); placed = λ is. absurd (true_false _ is other) };
 }
 
 -- each place of a list has its cell at the place of the other list
@@ -97,12 +97,12 @@ pub aimed-more : (frame : Frame) (cells : List ℕ) (n : ℕ) (old new : Aim) �
 unfolding ArePlaced
 aimed-more frame cells n old new before more =
     let to = list_more (is_aimed frame cells) n old.to.items new.to.items before.to more.to in
-    let k = more.from.0 in
+    let k = more.from.k in
     elim (cases_Bool (is_aimed frame cells n)) [
       | inl aimed ↦
           let to_is : new.to.items ≡ old.to.items ++ n ∷ [] = more.to ∙ ap (λ b. old.to.items ++ cond b (n ∷ []) []) aimed in
-          let from_is : new.from.items ≡ old.from.items ++ k ∷ [] = more.from.1.0 ∙ ap (λ b. old.from.items ++ cond b (k ∷ []) []) aimed in
-          let each = pushed_cell cells (stands_for frame) old.to.items old.from.items n k before.count before.cell (more.from.1.1 aimed) in
+          let from_is : new.from.items ≡ old.from.items ++ k ∷ [] = more.from.is ∙ ap (λ b. old.from.items ++ cond b (k ∷ []) []) aimed in
+          let each = pushed_cell cells (stands_for frame) old.to.items old.from.items n k before.count before.cell (more.from.placed aimed) in
           record {
             to = to;
             count = rw (to_is, from_is, length-append old.from.items (k ∷ []), length-append old.to.items (n ∷ []), before.count) refl;
@@ -110,7 +110,7 @@ aimed-more frame cells n old new before more =
           }
       | inr other ↦
           let to_is : new.to.items ≡ old.to.items = more.to ∙ ap (λ b. old.to.items ++ cond b (n ∷ []) []) other ∙ append-nil old.to.items in
-          let from_is : new.from.items ≡ old.from.items = more.from.1.0 ∙ ap (λ b. old.from.items ++ cond b (k ∷ []) []) other ∙ append-nil old.from.items in
+          let from_is : new.from.items ≡ old.from.items = more.from.is ∙ ap (λ b. old.from.items ++ cond b (k ∷ []) []) other ∙ append-nil old.from.items in
           record {
             to = to;
             count = rw (to_is, from_is) before.count;
@@ -139,12 +139,12 @@ pub aim-fits : (frame : Frame) (cells : List ℕ) (aim : Aim) → IsAim frame ce
 aim-fits frame cells aim is = record {
   lengths = is.count;
   to = All-from_get_or (λ place. place < places_in frame) aim.to.items 0 (λ j inside.
-    (kept-of (is_aimed frame cells) (places_in frame) aim.to.items is.to j inside).below);
+      (kept-of (is_aimed frame cells) (places_in frame) aim.to.items is.to j inside).below);
   from = All-from_get_or (λ k. k < length cells) aim.from.items 0 (λ j inside.
-    (is.cell j (omega (arith, is.count))).within);
+      (is.cell j (omega (arith, is.count))).within);
   same = once frame cells aim is;
   far = All-from_get_or (λ place. is_far frame place ≡ true) aim.to.items 0 (λ j inside.
-    aimed-far frame cells _ (kept-of (is_aimed frame cells) (places_in frame) aim.to.items is.to j inside).passes);
+      aimed-far frame cells _ (kept-of (is_aimed frame cells) (places_in frame) aim.to.items is.to j inside).passes);
 }
 
 -- a number stands in a list, or nowhere
@@ -181,15 +181,15 @@ put-values frame aim values old new fits copied all_new all_old =
 pub put-all : (frame : Frame) (aim : Aim) (values old new : List ℤ) → IsCopied aim.to.items aim.from.items values old new → (cells : List ℕ) → IsAim frame cells aim → IsPut frame cells values old new
 put-all frame aim values old new copied cells is = record {
   aimed = λ value values_are place within aimed.
-    let found = found-of (is_aimed frame cells) (places_in frame) aim.to.items is.to place within aimed in
-    let placed = is.cell found.at found.within in
-    let k = get_or aim.from.items found.at 0 in
-    ap (value_at new) (sym found.is)
-    ∙ copied.filled found.at found.within
-    ∙ ap (λ xs. value_at xs k) values_are
-    ∙ get_or-map value cells k 0 (pos 0) placed.within
-    ∙ ap value (placed.is ∙ ap (stands_for frame) found.is);
+      let found = found-of (is_aimed frame cells) (places_in frame) aim.to.items is.to place within aimed in
+      let placed = is.cell found.at found.within in
+      let k = get_or aim.from.items found.at 0 in
+      ap (value_at new) (sym found.is)
+      ∙ copied.filled found.at found.within
+      ∙ ap (λ xs. value_at xs k) values_are
+      ∙ get_or-map value cells k 0 (pos 0) placed.within
+      ∙ ap value (placed.is ∙ ap (stands_for frame) found.is);
   kept = λ place other.
-    copied.kept place (λ j inside same.
-    true_false _ (kept-of (is_aimed frame cells) (places_in frame) aim.to.items is.to j inside).passes (ap (is_aimed frame cells) same ∙ other));
+      copied.kept place (λ j inside same.
+      true_false _ (kept-of (is_aimed frame cells) (places_in frame) aim.to.items is.to j inside).passes (ap (is_aimed frame cells) same ∙ other));
 }

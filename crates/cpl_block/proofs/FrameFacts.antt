@@ -1,13 +1,12 @@
 -- The places of a block and its ring, and the cells that they stand for.
-use Rattle.std.proofs.Common.{◌≡◌, ℕ, ◌+◌, ◌-◌, ◌*◌, ◌/◌, ◌%◌, ◌^◌, ◌<◌, ◌≤◌, Bool, true, ◌&&◌, List, ℤ, pos, ◌+ℤ◌, ◌-ℤ◌, get_or, length, map, Some, refl, sym, ap, subst, ◌∙◌, arith}
+use Rattle.std.proofs.Common.{◌≡◌, ℕ, ◌+◌, ◌-◌, ◌*◌, ◌/◌, ◌%◌, ◌^◌, ◌<◌, ◌≤◌, Bool, true, ◌&&◌, List, ℤ, pos, ◌+ℤ◌, ◌-ℤ◌, get_or, map, refl, sym, ap, subst, ◌∙◌, arith}
 use Rattle.std.proofs.lemmas.Bool.{and_parts, le-leb, leb-true, lt-ltb, ltb-true}
 use Rattle.std.proofs.lemmas.Int.{ints}
 use Rattle.std.proofs.lemmas.List.{get_or-map}
 use Rattle.std.proofs.lemmas.Nat.{div-add-mod', div-mul-add, mod-mul-add}
 use Rattle.std.proofs.lemmas.Option.{get_or_from_slice_get, slice_get_within}
-use Rattle.std.specs.List.{All, range_with_len}
-use Rattle.std.specs.Prelude.{slice_get, unsigned_abs}
-use Rattle.cpl_grid.specs.Blocks.{numbers_below}
+use Rattle.std.specs.List.{All}
+use Rattle.std.specs.Prelude.{unsigned_abs}
 use Rattle.cpl_grid.specs.Grid.{IsCell, IsColumn, IsNumbering, IsRow, column_at, column_of, index_of, indices, neighbour_of, row_at, row_of}
 use Rattle.cpl_grid.specs.Parts.{ListsPart, cells_of_part, part_cell, part_row, whole_part}
 use Rattle.cpl_grid.specs.declared.blocks.Part.{Part}
@@ -119,8 +118,8 @@ own_here frame a b spot =
     let column : place_at frame a b % row ≡ i = ap (λ k. k % row) (joined (frame.ry + 0) (frame.rx + 0) row a b) ∙ mod-mul-add j row i inside in
     let line : place_at frame a b / row ≡ j = ap (λ k. k / row) (joined (frame.ry + 0) (frame.rx + 0) row a b) ∙ div-mul-add j row i inside in
     both-are _ _
-      (ap (is_among frame.rx frame.part.columns.length) column ∙ among-is frame.rx frame.part.columns.length i (omega arith) (omega arith))
-      (ap (is_among frame.ry frame.part.rows.length) line ∙ among-is frame.ry frame.part.rows.length j (omega arith) (omega arith))
+    (ap (is_among frame.rx frame.part.columns.length) column ∙ among-is frame.rx frame.part.columns.length i (omega arith) (omega arith))
+    (ap (is_among frame.ry frame.part.rows.length) line ∙ among-is frame.ry frame.part.rows.length j (omega arith) (omega arith))
 
 home_here : (frame : Frame) → IsFrame frame → IsNumbering frame.grid → (a b : ℕ) → IsSpot frame a b → IsHome frame (cell_at frame a b) (place_at frame a b)
 home_here frame is numbering a b spot = record {
@@ -171,8 +170,8 @@ ours_here frame is numbering a b spot =
     let i = frame.part.columns.start in
     let j = frame.part.rows.start in
     both-are _ _
-      (ap (λ k. is_among i frame.part.columns.length (k - 1)) at.column ∙ among-is i frame.part.columns.length (i + a + 1 - 1) (omega arith) (omega arith))
-      (ap (λ k. is_among j frame.part.rows.length (k - 1)) at.row ∙ among-is j frame.part.rows.length (j + b + 1 - 1) (omega arith) (omega arith))
+    (ap (λ k. is_among i frame.part.columns.length (k - 1)) at.column ∙ among-is i frame.part.columns.length (i + a + 1 - 1) (omega arith) (omega arith))
+    (ap (λ k. is_among j frame.part.rows.length (k - 1)) at.row ∙ among-is j frame.part.rows.length (j + b + 1 - 1) (omega arith) (omega arith))
 
 -- one of the block's own is in a column and a row of it
 pub owner-of : (frame : Frame) → IsNumbering frame.grid → (s : ℕ) → IsCell frame.grid s → is_ours frame s ≡ true → IsCellOfBlock frame s
@@ -239,9 +238,9 @@ record HasHomes (frame : Frame) : Type 0 where
 listed-all : (frame : Frame) → HasHomes frame → (value : ℕ → ℤ) (field : List ℤ) → IsOwn frame value field → values_in frame field ≡ map value (cells_of_part frame.grid frame.part)
 listed-all frame needs value field own =
     let same : (s : ℕ) → IsCellOfBlock frame s → value_at field (home_of frame s) ≡ value s = λ s cell.
-        let here = needs.here cell.a cell.b cell.spot in
-        let home = ap (home_of frame) cell.is ∙ needs.home cell.a cell.b cell.spot in
-        ap (value_at field) home ∙ own (place_at frame cell.a cell.b) here.within here.own ∙ ap value (here.stands ∙ sym cell.is) in
+    let here = needs.here cell.a cell.b cell.spot in
+    let home = ap (home_of frame) cell.is ∙ needs.home cell.a cell.b cell.spot in
+    ap (value_at field) home ∙ own (place_at frame cell.a cell.b) here.within here.own ∙ ap value (here.stands ∙ sym cell.is) in
     map-same (IsCellOfBlock frame) (λ s. value_at field (home_of frame s)) value same (cells_of_part frame.grid frame.part) (each_cell frame)
 
 -- and back
@@ -298,8 +297,8 @@ ours_whole frame numbering part is whole s cell =
     let row_to = row.within in
     let all : frame.part ≡ whole_part frame.grid = is ∙ whole in
     rw all (both-are _ _
-      (among-is 0 frame.grid.nx (column_of frame.grid s - 1) (omega arith) (omega arith))
-      (among-is 0 frame.grid.ny (row_of frame.grid s - 1) (omega arith) (omega arith)))
+    (among-is 0 frame.grid.nx (column_of frame.grid s - 1) (omega arith) (omega arith))
+    (among-is 0 frame.grid.ny (row_of frame.grid s - 1) (omega arith) (omega arith)))
 
 pub alone : (frame : Frame) → IsNumbering frame.grid → frame.part ≡ whole_part frame.grid → cells_of_part frame.grid (whole_part frame.grid) ≡ indices frame.grid → IsAlone frame
 alone frame numbering whole cells = record {

@@ -1,5 +1,5 @@
 -- Lists of numbers in rows, and what a filter keeps of a run.
-use Rattle.std.proofs.Common.{◌≡◌, ℕ, zero, suc, ◌+◌, ◌*◌, ◌<◌, ◌≤◌, Bool, true, false, cond, List, [], ◌∷◌, ◌++◌, ℤ, pos, filter, get_or, take, drop, length, map, refl, sym, ap, ◌∙◌, inl, inr, arith, subst, zero-add}
+use Rattle.std.proofs.Common.{◌≡◌, ℕ, zero, suc, ◌+◌, ◌<◌, ◌≤◌, Bool, true, false, cond, List, [], ◌∷◌, ◌++◌, ℤ, pos, filter, get_or, take, drop, length, map, refl, sym, ap, ◌∙◌, inl, inr, arith, subst, zero-add}
 use Rattle.std.proofs.lemmas.Bool.{cases_Bool, cases_eq}
 use Rattle.std.proofs.lemmas.List.{map-append}
 use Rattle.std.proofs.lemmas.List.Elements.{All-append, All-filter, All-head, All-nil, All-tail, filter-append, filter_passes}
@@ -37,12 +37,12 @@ map-run F field s place (suc n) each within =
     let first : F s ≡ get_or field place (pos 0) = ap F (sym here) ∙ each 0 (omega arith) ∙ ap (λ k. get_or field k (pos 0)) there in
     let next : suc place ≡ place + 1 = omega arith in
     let further : (i : ℕ) → i < n → F (s + 1 + i) ≡ get_or field (place + 1 + i) (pos 0) = λ i below.
-        let at : s + 1 + i ≡ s + suc i = omega arith in
-        let at_place : place + suc i ≡ place + 1 + i = omega arith in
-        ap F at ∙ each (suc i) (omega arith) ∙ ap (λ k. get_or field k (pos 0)) at_place in
+    let at : s + 1 + i ≡ s + suc i = omega arith in
+    let at_place : place + suc i ≡ place + 1 + i = omega arith in
+    ap F at ∙ each (suc i) (omega arith) ∙ ap (λ k. get_or field k (pos 0)) at_place in
     let rest = map-run F field (s + 1) (place + 1) n further (omega arith) in
     let parts : take (suc n) (drop place field) ≡ get_or field place (pos 0) ∷ take n (drop (place + 1) field) =
-        ap (take (suc n)) (drop-cons field place (pos 0) (omega arith)) ∙ ap (λ k. get_or field place (pos 0) ∷ take n (drop k field)) next in
+    ap (take (suc n)) (drop-cons field place (pos 0) (omega arith)) ∙ ap (λ k. get_or field place (pos 0) ∷ take n (drop k field)) next in
     (λ i. first i ∷ rest i) ∙ sym parts
 
 -- a filter of one number
@@ -57,7 +57,7 @@ pub filter-more : (p : ℕ → Bool) (n : ℕ) → filter p (numbers_below (n + 
 filter-more p n =
     let next : n + 1 ≡ suc n = omega arith in
     let last : filter p ((0 + n) ∷ []) ≡ cond (p n) (n ∷ []) [] =
-        ap (λ k. filter p (k ∷ [])) (zero-add n) ∙ filter_one p n in
+    ap (λ k. filter p (k ∷ [])) (zero-add n) ∙ filter_one p n in
     ap (λ k. filter p (numbers_below k)) next
     ∙ ap (filter p) (range-suc 0 n)
     ∙ filter-append p (numbers_below n) ((0 + n) ∷ [])

@@ -1,18 +1,18 @@
 -- The places of the ring.
-use Rattle.std.proofs.Common.{◌≡◌, ℕ, ◌+◌, ◌<◌, ◌≤◌, Bool, true, false, cond, ◌&&◌, not, List, [], ◌∷◌, ◌++◌, ℤ, pos, filter, get_or, length, map, refl, sym, ap, subst, ◌∙◌, inl, inr, arith}
+use Rattle.std.proofs.Common.{◌≡◌, ℕ, ◌+◌, ◌<◌, Bool, true, false, cond, List, [], ◌∷◌, ◌++◌, ℤ, pos, filter, get_or, length, map, refl, sym, ap, subst, ◌∙◌, inl, inr, arith}
 use Rattle.std.proofs.lemmas.Bool.{and_parts, cases_Bool, not-true}
 use Rattle.std.proofs.lemmas.List.{get_or-map, length-map, map-append}
 use Rattle.std.proofs.lemmas.List.Elements.{All-from_get_or, All-get_or}
 use Rattle.std.specs.List.{All}
 use Rattle.cpl_base.specs.Numbers.{IsValue}
-use Rattle.cpl_field.specs.Copies.{AreApart, IsCopied, IsOther}
+use Rattle.cpl_field.specs.Copies.{AreApart, IsCopied}
 use Rattle.cpl_grid.specs.Blocks.{numbers_below}
-use Rattle.cpl_block.specs.Frames.{IsOwn, IsRinged, all_places, home_of, is_ours, is_own, places_in, stands_for, value_at}
+use Rattle.cpl_block.specs.Frames.{IsOwn, IsRinged, is_ours, is_own, places_in, stands_for, value_at}
 use Rattle.cpl_block.specs.Laws.{IsFraming, IsHome}
 use Rattle.cpl_block.specs.Rings.{IsArrived, IsNoted, IsRefilled, IsRing, is_far, is_near, source_of}
 use Rattle.cpl_block.specs.declared.frame.Frame.{Frame}
 use Rattle.cpl_block.specs.declared.ring.Ring.{Ring}
-use Rattle.cpl_block.proofs.ListFacts.{IsFound, IsKept, filter-more, found-of, kept-of, map-one}
+use Rattle.cpl_block.proofs.ListFacts.{filter-more, found-of, kept-of, map-one}
 
 -- the first so many places are noted
 pub record IsNotedUpTo (frame : Frame) (count : ℕ) (ring : Ring) : Type 0 where
@@ -93,7 +93,7 @@ filled-at frame ring laws noted j inside =
     let place = get_or ring.to.items j 0 in
     let near = near-is frame place kept.passes in
     let source : get_or ring.from.items j 0 ≡ source_of frame place =
-        ap (λ xs. get_or xs j 0) noted.from ∙ get_or-map (source_of frame) ring.to.items j 0 0 inside in
+    ap (λ xs. get_or xs j 0) noted.from ∙ get_or-map (source_of frame) ring.to.items j 0 0 inside in
     let P : ℕ → Type 0 = λ k. IsHome frame (stands_for frame place) k in
     record {
       within = kept.below;
@@ -159,9 +159,9 @@ refilled_ringed frame ring old new laws noted copied value own arrived place wit
   | inr other ↦
       refilled-other frame ring old new laws noted copied place other
       ∙ elim (cases_Bool (is_own frame place)) [
-          | inl ours ↦ own place within ours
-          | inr strange ↦ arrived place within (far-from frame place strange other)
-        ]
+        | inl ours ↦ own place within ours
+        | inr strange ↦ arrived place within (far-from frame place strange other)
+      ]
 ]
 
 refilled_values : (frame : Frame) (ring : Ring) (old new : List ℤ) → IsFraming frame → IsRing frame ring → IsCopied ring.to.items ring.from.items old old new → length old ≡ places_in frame → All IsValue old → All IsValue new

@@ -1,10 +1,10 @@
 -- How many places there are, in numbers.
-use Rattle.std.proofs.Common.{◌≡◌, ℕ, ◌+◌, ◌-◌, ◌*◌, ◌^◌, ◌<◌, ◌≤◌, ℤ, pos, ◌+ℤ◌, ap, arith}
+use Rattle.std.proofs.Common.{◌≡◌, ℕ, ◌+◌, ◌-◌, ◌*◌, ◌^◌, ◌<◌, ◌≤◌, ℤ, pos, ◌+ℤ◌, arith}
 use Rattle.std.proofs.lemmas.Int.{ints}
 use Rattle.std.proofs.lemmas.Nat.{mul-add-lt}
 use Rattle.std.proofs.Math.Nat.{mul-le-mul, mul-le-mul_left, mul-le-mul_right}
 use Rattle.std.specs.Prelude.{unsigned_abs}
-use Rattle.cpl_block.specs.Frames.{IsFrame, IsReached, IsSpot, first_of, place_at, places_in, row_length, span_of, step_to}
+use Rattle.cpl_block.specs.Frames.{IsFrame, IsReached, IsSpot, first_of, places_in, row_length, span_of, step_to}
 use Rattle.cpl_block.specs.declared.frame.Frame.{Frame}
 
 -- a few columns and rows more than a grid has are not many more places

@@ -1,9 +1,8 @@
 -- The sum, the least and the greatest of a block's values, row by row.
-use Rattle.std.proofs.Common.{◌≡◌, ℕ, zero, suc, ◌+◌, ◌-◌, ◌*◌, ◌^◌, ◌<◌, ◌≤◌, Bool, true, false, cond, List, [], ◌∷◌, ◌++◌, ℤ, pos, drop, fold, get_or, length, take, ◌+ℤ◌, refl, sym, ap, ◌∙◌, arith, zero-add}
+use Rattle.std.proofs.Common.{◌≡◌, ℕ, zero, suc, ◌+◌, ◌-◌, ◌*◌, ◌<◌, ◌≤◌, Bool, true, false, cond, List, [], ◌∷◌, ◌++◌, ℤ, pos, drop, fold, get_or, length, take, ◌+ℤ◌, refl, sym, ap, ◌∙◌, arith, zero-add}
 use Rattle.std.proofs.lemmas.Grind.{flat_map-append}
 use Rattle.std.proofs.lemmas.List.{append-nil}
 use Rattle.std.proofs.lemmas.List.Sums.{fold-append}
-use Rattle.std.proofs.Math.Nat.{mul-le-mul_left}
 use Rattle.std.proofs.Math.Seq.{drop-cons}
 use Rattle.std.specs.Int.{int_max, int_min}
 use Rattle.std.specs.List.{flat_map, range_with_len}
@@ -13,7 +12,7 @@ use Rattle.cpl_block.specs.Frames.{IsFrame, first_of, places_in, row_length, val
 use Rattle.cpl_block.specs.Laws.{IsInRows, row_at_places}
 use Rattle.cpl_block.specs.Totals.{greatest_of, least_of, total_of}
 use Rattle.cpl_block.specs.declared.frame.Frame.{Frame}
-use Rattle.cpl_block.proofs.SizeFacts.{few-places, row-few}
+use Rattle.cpl_block.proofs.SizeFacts.{row-few}
 
 -- one row more
 rows_more : (g : ℕ → List ℤ) (b : ℕ) → flat_map g (numbers_below (b + 1)) ≡ flat_map g (numbers_below b) ++ g b
@@ -63,10 +62,10 @@ values_begin frame field is long rows =
     record {
       rest = take (frame.part.columns.length - 1) (drop (suc start) field) ++ others;
       is =
-        rows field long
-        ∙ rows_begin (row_at_places frame field) frame.part.rows.length is.rows
-        ∙ ap (λ xs. xs ++ others) first
-        ∙ ap (λ k. get_or field k (pos 0) ∷ (take (frame.part.columns.length - 1) (drop (suc start) field) ++ others)) here;
+          rows field long
+          ∙ rows_begin (row_at_places frame field) frame.part.rows.length is.rows
+          ∙ ap (λ xs. xs ++ others) first
+          ∙ ap (λ k. get_or field k (pos 0) ∷ (take (frame.part.columns.length - 1) (drop (suc start) field) ++ others)) here;
     }
 
 -- a choice between a number and itself
@@ -105,11 +104,3 @@ pub greatest-all : (z : ℤ) (frame : Frame) (field : List ℤ) (n : ℕ) → Is
 greatest-all z frame field n frame_is long rows all is =
     all_rows int_max (value_at field (first_of frame (pos 0) (pos 0))) z frame field n long rows all is
     ∙ greatest_first _ (values_in frame field) (values_begin frame field frame_is long rows)
-
--- the cells in the rows passed are few
-pub cells-few : (frame : Frame) (b : ℕ) → IsFrame frame → b < frame.part.rows.length → (b + 1) * frame.part.columns.length ≤ 2 ^ 24
-cells-few frame b is below =
-    let row = row-few frame b is below in
-    let few = few-places frame is in
-    let wide : b * frame.part.columns.length ≤ b * row_length frame = mul-le-mul_left b (omega arith) in
-    omega (arith, row, few, wide)

@@ -2,7 +2,7 @@
 use Rattle.std.specs.Prelude.{◌≡◌, ℕ, ◌<◌, ◌≤◌, ◌&&◌, ◌==◌, Bool, true, false, ℤ, List, [], ◌∷◌, ◌++◌, filter, if◌then◌else◌, length, map, slice_index}
 use Rattle.std.specs.List.{All, list_any}
 use Rattle.cpl_field.specs.Copies.{AreSame}
-use Rattle.cpl_block.specs.Frames.{IsOwn, all_places, places_in, stands_for, value_at}
+use Rattle.cpl_block.specs.Frames.{Holds, all_places, places_in, stands_for, value_at}
 use Rattle.cpl_block.specs.Rings.{is_far}
 use Rattle.cpl_block.specs.declared.aim.Aim.{Aim}
 use Rattle.cpl_block.specs.declared.frame.Frame.{Frame}
@@ -34,13 +34,23 @@ pub record IsAimFor (frame : Frame) (count : ℕ) (aim : Aim) : Type 0 where
   pub same : AreSame aim.to.items aim.from.items
   pub far : All (λ place. is_far frame place ≡ true) aim.to.items
 
+-- the aimed places hold the values of their cells
+abbrev pub IsPutAt : Frame → List ℕ → (ℕ → ℤ) → List ℤ → Type 0
+IsPutAt frame cells value field = Holds (is_aimed frame cells) frame value field
+
 -- What a parcel leaves: the aimed places hold the values of their cells, all others what they held; so the block's own
 -- places hold what they held.
 pub record IsPut (frame : Frame) (cells : List ℕ) (values old new : List ℤ) : Type 0 where
-  pub aimed : (value : ℕ → ℤ) → values ≡ map value cells → (place : ℕ) → place < places_in frame → is_aimed frame cells place ≡ true → value_at new place ≡ value (stands_for frame place)
+  pub aimed : (value : ℕ → ℤ) → values ≡ map value cells → IsPutAt frame cells value new
   pub kept : (place : ℕ) → is_aimed frame cells place ≡ false → value_at new place ≡ value_at old place
+
+-- a place in the parcel for one place more, if it is aimed at
+pub record IsAimedFrom (frame : Frame) (cells : List ℕ) (place : ℕ) (old new : List ℕ) : Type 0 where
+  pub k : ℕ
+  pub is : new ≡ old ++ (if is_aimed frame cells place then k ∷ [] else [])
+  pub placed : is_aimed frame cells place ≡ true → IsPlacedIn cells (stands_for frame place) k
 
 -- one place more is noted, if it is aimed at
 pub record IsAimedMore (frame : Frame) (cells : List ℕ) (place : ℕ) (old new : Aim) : Type 0 where
   pub to : new.to.items ≡ old.to.items ++ (if is_aimed frame cells place then place ∷ [] else [])
-  pub from : (k : ℕ) × ((new.from.items ≡ old.from.items ++ (if is_aimed frame cells place then k ∷ [] else [])) × (is_aimed frame cells place ≡ true → IsPlacedIn cells (stands_for frame place) k))
+  pub from : IsAimedFrom frame cells place old.from.items new.from.items

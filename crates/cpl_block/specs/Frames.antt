@@ -1,5 +1,6 @@
 -- A block of a grid with a ring of places around it: which cell each place stands for.
-use Rattle.std.specs.Prelude.{◌≡◌, ℕ, ◌+◌, ◌-◌, ◌*◌, ◌/◌, ◌%◌, ◌<◌, ◌≤◌, ◌&&◌, Bool, true, ℤ, pos, ◌+ℤ◌, ◌-ℤ◌, List, map, nat_le, nat_lt, slice_index_or, unsigned_abs}
+use Rattle.std.specs.Prelude.{◌≡◌, ℕ, ◌+◌, ◌-◌, ◌*◌, ◌/◌, ◌%◌, ◌<◌, ◌≤◌}
+use Rattle.std.specs.Prelude.{◌&&◌, Bool, true, ℤ, pos, ◌+ℤ◌, ◌-ℤ◌, List, map, nat_le, nat_lt, slice_index_or, unsigned_abs}
 use Rattle.cpl_grid.specs.Blocks.{numbers_below}
 use Rattle.cpl_grid.specs.Grid.{IsGrid, column_at, column_of, index_of, row_at, row_of}
 use Rattle.cpl_grid.specs.Parts.{IsPart, cells_of_part, part_cell}

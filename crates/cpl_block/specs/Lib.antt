@@ -1,4 +1,5 @@
 pub mod Aims
+pub mod Examples
 pub mod Frames
 pub mod Laws
 pub mod Rings

@@ -4,12 +4,14 @@
 #![tactic(auto)]
 
 mod aim;
+mod examples;
 mod frame;
 mod laws;
 mod ring;
 mod totals;
 
 pub use aim::{Aim, aim_of, put};
+pub use examples::block_examples;
 pub use frame::Frame;
 pub use laws::{frame_laws, row_laws, whole_laws};
 pub use ring::{Ring, refill, ring_of};

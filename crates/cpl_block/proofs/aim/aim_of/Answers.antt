@@ -1,5 +1,4 @@
-use Rattle.std.proofs.Common.{arith, length}
-use Rattle.cpl_block.specs.Aims.{IsAim}
+use Rattle.std.proofs.Common.{arith}
 use Rattle.cpl_block.proofs.AimFacts.{aim-fits, aimed-all, aimed-more}
 use Rattle.cpl_block.proofs.aim.aim_of.Goals as goal
 

@@ -1,4 +1,4 @@
-use Rattle.std.proofs.Common.{◌≡◌, ◌∙◌, arith, rules, fold, pos}
+use Rattle.std.proofs.Common.{◌∙◌, arith, rules, pos}
 use Rattle.std.proofs.lemmas.Int.{to_z-of_z}
 use Rattle.std.specs.Int.{int_max, w64}
 use Rattle.cpl_block.specs.Frames.{first_of, value_at}

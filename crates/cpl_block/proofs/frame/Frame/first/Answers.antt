@@ -1,8 +1,5 @@
-use Rattle.std.proofs.Common.{◌≡◌, ap, arith, ◌*◌, ◌+◌, ◌+ℤ◌, pos}
-use Rattle.std.proofs.lemmas.Int.{ints, to_z-of_z}
+use Rattle.std.proofs.lemmas.Int.{to_z-of_z}
 use Rattle.std.specs.Int.{w8}
-use Rattle.std.specs.Prelude.{unsigned_abs}
-use Rattle.cpl_block.specs.Frames.{IsReached, row_length}
 use Rattle.cpl_block.proofs.SizeFacts.{first-few}
 use Rattle.cpl_block.proofs.frame.Frame.first.Goals as goal
 
