@@ -1,6 +1,6 @@
 -- The places of a block and its ring, and the cells that they stand for.
-use Rattle.std.proofs.Common.{◌≡◌, ℕ, ◌+◌, ◌-◌, ◌*◌, ◌/◌, ◌%◌, ◌^◌, ◌<◌, ◌≤◌, Bool, true, ◌&&◌, List, ℤ, pos, ◌+ℤ◌, ◌-ℤ◌, get_or, map, refl, sym, ap, subst, ◌∙◌, arith}
-use Rattle.std.proofs.lemmas.Bool.{and_parts, le-leb, leb-true, lt-ltb, ltb-true}
+use Rattle.std.proofs.Common.{◌≡◌, ℕ, ◌+◌, ◌-◌, ◌*◌, ◌/◌, ◌%◌, ◌^◌, ◌<◌, ◌≤◌, Bool, true, ◌&&◌, List, ℤ, pos, ◌+ℤ◌, ◌-ℤ◌, get_or, map, refl, sym, ap, subst, ◌∙◌, arith, false, inl, inr, ◌↔◌}
+use Rattle.std.proofs.lemmas.Bool.{and_parts, cases_Bool, le-leb, leb-true, lt-ltb, ltb-true}
 use Rattle.std.proofs.lemmas.Int.{ints}
 use Rattle.std.proofs.lemmas.List.{get_or-map}
 use Rattle.std.proofs.lemmas.Nat.{div-add-mod', div-mul-add, mod-mul-add}
@@ -8,12 +8,13 @@ use Rattle.std.proofs.lemmas.Option.{get_or_from_slice_get, slice_get_within}
 use Rattle.std.specs.List.{All}
 use Rattle.std.specs.Prelude.{unsigned_abs}
 use Rattle.cpl_grid.specs.Grid.{IsCell, IsColumn, IsNumbering, IsRow, column_at, column_of, index_of, indices, neighbour_of, row_at, row_of}
-use Rattle.cpl_grid.specs.Parts.{ListsPart, cells_of_part, part_cell, part_row, whole_part}
+use Rattle.cpl_grid.specs.Parts.{IsInPart, ListsPart, cells_of_part, part_cell, part_row, whole_part}
 use Rattle.cpl_grid.specs.declared.blocks.Part.{Part}
 use Rattle.cpl_grid.specs.declared.grid.Grid.{Grid}
 use Rattle.cpl_grid.proofs.RangeFacts.{All-range}
 use Rattle.cpl_block.specs.Frames.{IsFrame, IsOwn, IsReached, IsSpot, cell_at, first_of, home_of, is_among, is_ours, is_own, place_at, places_in, row_length, stands_for, step_to, value_at, values_in}
 use Rattle.cpl_block.specs.Laws.{IsAlone, IsCellOfBlock, IsFraming, IsHome, IsPlaceOfBlock}
+use Rattle.cpl_block.specs.Rings.{is_far}
 use Rattle.cpl_block.specs.declared.frame.Frame.{Frame}
 use Rattle.cpl_block.proofs.ListFacts.{All-rows, map-same}
 use Rattle.cpl_block.proofs.SizeFacts.{ends-places, few-places, joined, reach-none, shift-of, steps-within, within-places}
@@ -173,6 +174,25 @@ ours_here frame is numbering a b spot =
     (ap (λ k. is_among i frame.part.columns.length (k - 1)) at.column ∙ among-is i frame.part.columns.length (i + a + 1 - 1) (omega arith) (omega arith))
     (ap (λ k. is_among j frame.part.rows.length (k - 1)) at.row ∙ among-is j frame.part.rows.length (j + b + 1 - 1) (omega arith) (omega arith))
 
+-- the block's own cells are those in its columns and its rows
+ours-part : (frame : Frame) (s : ℕ) → (is_ours frame s ≡ true) ↔ IsInPart frame.grid frame.part s
+unfolding is_ours
+ours-part frame s =
+    let i = frame.part.columns.start in
+    let j = frame.part.rows.start in (
+      λ ours.
+          let parts = and_parts _ _ ours in
+          let column = among-of i frame.part.columns.length (column_of frame.grid s - 1) parts.0 in
+          let line = among-of j frame.part.rows.length (row_of frame.grid s - 1) parts.1 in
+          record {
+            column = record { from_start = column.from; before_end = column.to };
+            row = record { from_start = line.from; before_end = line.to };
+          },
+      λ within. both-are _ _
+          (among-is i frame.part.columns.length (column_of frame.grid s - 1) within.column.from_start within.column.before_end)
+          (among-is j frame.part.rows.length (row_of frame.grid s - 1) within.row.from_start within.row.before_end),
+    )
+
 -- one of the block's own is in a column and a row of it
 pub owner-of : (frame : Frame) → IsNumbering frame.grid → (s : ℕ) → IsCell frame.grid s → is_ours frame s ≡ true → IsCellOfBlock frame s
 unfolding is_ours
@@ -279,6 +299,7 @@ framing frame is numbering lists =
       cell = stands-cell frame numbering;
       ours = ours_here frame is numbering;
       owner = owner-of frame numbering;
+      part = ours-part frame;
       home = home_is frame is numbering;
       homes = homes-all frame is numbering;
       listed = listed-all frame needs;
@@ -300,10 +321,21 @@ ours_whole frame numbering part is whole s cell =
     (among-is 0 frame.grid.nx (column_of frame.grid s - 1) (omega arith) (omega arith))
     (among-is 0 frame.grid.ny (row_of frame.grid s - 1) (omega arith) (omega arith)))
 
+-- no place waits for a parcel where each cell is the block's own
+far_none : (frame : Frame) → IsNumbering frame.grid → ((s : ℕ) → IsCell frame.grid s → is_ours frame s ≡ true) → (place : ℕ) → is_far frame place ≡ false
+unfolding is_far
+far_none frame numbering ours place =
+    let one : is_ours frame (stands_for frame place) ≡ true = ours (stands_for frame place) (stands-cell frame numbering place) in
+    elim (cases_Bool (is_own frame place)) [
+      | inl own ↦ rw own refl
+      | inr other ↦ rw (other, one) refl
+    ]
+
 pub alone : (frame : Frame) → IsNumbering frame.grid → frame.part ≡ whole_part frame.grid → cells_of_part frame.grid (whole_part frame.grid) ≡ indices frame.grid → IsAlone frame
 alone frame numbering whole cells = record {
   cells = ap (cells_of_part frame.grid) whole ∙ cells;
   ours = ours_whole frame numbering frame.part refl whole;
+  far = far_none frame numbering (ours_whole frame numbering frame.part refl whole);
 }
 
 -- a cell of the block, in the numbers of the code

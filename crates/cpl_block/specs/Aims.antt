@@ -2,7 +2,7 @@
 use Rattle.std.specs.Prelude.{◌≡◌, ℕ, ◌<◌, ◌≤◌, ◌&&◌, ◌==◌, Bool, true, false, ℤ, List, [], ◌∷◌, ◌++◌, filter, if◌then◌else◌, length, map, slice_index}
 use Rattle.std.specs.List.{All, list_any}
 use Rattle.cpl_field.specs.Copies.{AreSame}
-use Rattle.cpl_block.specs.Frames.{Holds, all_places, places_in, stands_for, value_at}
+use Rattle.cpl_block.specs.Frames.{HoldsWhere, all_places, places_in, stands_for, value_at}
 use Rattle.cpl_block.specs.Rings.{is_far}
 use Rattle.cpl_block.specs.declared.aim.Aim.{Aim}
 use Rattle.cpl_block.specs.declared.frame.Frame.{Frame}
@@ -36,7 +36,7 @@ pub record IsAimFor (frame : Frame) (count : ℕ) (aim : Aim) : Type 0 where
 
 -- the aimed places hold the values of their cells
 abbrev pub IsPutAt : Frame → List ℕ → (ℕ → ℤ) → List ℤ → Type 0
-IsPutAt frame cells value field = Holds (is_aimed frame cells) frame value field
+IsPutAt frame cells value field = HoldsWhere (is_aimed frame cells) frame value field
 
 -- What a parcel leaves: the aimed places hold the values of their cells, all others what they held; so the block's own
 -- places hold what they held.

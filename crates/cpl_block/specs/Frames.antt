@@ -96,13 +96,13 @@ abbrev pub values_in : Frame → List ℤ → List ℤ
 values_in frame field = map (λ s. value_at field (home_of frame s)) (cells_of_part frame.grid frame.part)
 
 -- each place that passes a test holds the value of the cell that it stands for
-abbrev pub Holds : (ℕ → Bool) → Frame → (ℕ → ℤ) → List ℤ → Type 0
-Holds test frame value field =
+abbrev pub HoldsWhere : (ℕ → Bool) → Frame → (ℕ → ℤ) → List ℤ → Type 0
+HoldsWhere test frame value field =
     (place : ℕ) → place < places_in frame → test place ≡ true → value_at field place ≡ value (stands_for frame place)
 
 -- each place of the block holds its cell's value
 abbrev pub IsOwn : Frame → (ℕ → ℤ) → List ℤ → Type 0
-IsOwn frame value field = Holds (is_own frame) frame value field
+IsOwn frame value field = HoldsWhere (is_own frame) frame value field
 
 -- all places hold the values of the cells that they stand for
 abbrev pub IsRinged : Frame → (ℕ → ℤ) → List ℤ → Type 0

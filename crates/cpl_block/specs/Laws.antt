@@ -1,10 +1,11 @@
 -- What holds of the places of every block.
-use Rattle.std.specs.Prelude.{◌≡◌, ℕ, ◌+◌, ◌*◌, ◌^◌, ◌<◌, ◌≤◌, true, ℤ, pos, List, drop, length, map, take}
+use Rattle.std.specs.Prelude.{◌≡◌, ◌↔◌, false, ℕ, ◌+◌, ◌*◌, ◌^◌, ◌<◌, ◌≤◌, true, ℤ, pos, List, drop, length, map, take}
 use Rattle.std.specs.List.{flat_map}
 use Rattle.cpl_grid.specs.Blocks.{numbers_below}
 use Rattle.cpl_grid.specs.Grid.{IsCell, indices, neighbour_of}
-use Rattle.cpl_grid.specs.Parts.{cells_of_part}
+use Rattle.cpl_grid.specs.Parts.{IsInPart, cells_of_part}
 use Rattle.cpl_block.specs.Frames.{IsOwn, IsReached, IsSpot, cell_at, first_of, home_of, is_ours, is_own, place_at, places_in, row_length, span_of, stands_for, step_to, values_in}
+use Rattle.cpl_block.specs.Rings.{is_far}
 use Rattle.cpl_block.specs.declared.frame.Frame.{Frame}
 
 -- a place of the block is that of a cell in its column and its row, both from 0
@@ -40,15 +41,17 @@ pub record IsFraming (frame : Frame) : Type 0 where
   pub cell : (place : ℕ) → IsCell frame.grid (stands_for frame place)
   pub ours : (a b : ℕ) → IsSpot frame a b → is_ours frame (cell_at frame a b) ≡ true
   pub owner : (s : ℕ) → IsCell frame.grid s → is_ours frame s ≡ true → IsCellOfBlock frame s
+  pub part : (s : ℕ) → (is_ours frame s ≡ true) ↔ IsInPart frame.grid frame.part s
   pub home : (a b : ℕ) → IsSpot frame a b → home_of frame (cell_at frame a b) ≡ place_at frame a b
   pub homes : (s : ℕ) → IsCell frame.grid s → is_ours frame s ≡ true → IsHome frame s (home_of frame s)
   pub listed : (value : ℕ → ℤ) (field : List ℤ) → IsOwn frame value field → values_in frame field ≡ map value (cells_of_part frame.grid frame.part)
   pub held : (value : ℕ → ℤ) (field : List ℤ) → values_in frame field ≡ map value (cells_of_part frame.grid frame.part) → IsOwn frame value field
 
--- a block that has all cells: its list is that of the grid, and each cell is its own
+-- a block that has all cells: its list is that of the grid, each cell is its own, and no place stands for another's
 pub record IsAlone (frame : Frame) : Type 0 where
   pub cells : cells_of_part frame.grid frame.part ≡ indices frame.grid
   pub ours : (s : ℕ) → IsCell frame.grid s → is_ours frame s ≡ true
+  pub far : (place : ℕ) → is_far frame place ≡ false
 
 -- the values in row b of the block, which follow one another in a field
 abbrev pub row_at_places : Frame → List ℤ → ℕ → List ℤ

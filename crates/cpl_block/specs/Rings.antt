@@ -2,7 +2,7 @@
 use Rattle.std.specs.Prelude.{◌≡◌, ℕ, ◌<◌, ◌&&◌, Bool, ℤ, List, [], ◌∷◌, ◌++◌, filter, if◌then◌else◌, length, map, not}
 use Rattle.std.specs.List.{All}
 use Rattle.cpl_base.specs.Numbers.{IsValue}
-use Rattle.cpl_block.specs.Frames.{Holds, IsOwn, IsRinged, all_places, home_of, is_ours, is_own, places_in, stands_for, value_at}
+use Rattle.cpl_block.specs.Frames.{HoldsWhere, IsOwn, IsRinged, all_places, home_of, is_ours, is_own, places_in, stands_for, value_at}
 use Rattle.cpl_block.specs.declared.frame.Frame.{Frame}
 use Rattle.cpl_block.specs.declared.ring.Ring.{Ring}
 
@@ -26,7 +26,7 @@ pub record IsRing (frame : Frame) (ring : Ring) : Type 0 where
 
 -- each place whose cell is another block's holds that cell's value
 abbrev pub IsArrived : Frame → (ℕ → ℤ) → List ℤ → Type 0
-IsArrived frame value field = Holds (is_far frame) frame value field
+IsArrived frame value field = HoldsWhere (is_far frame) frame value field
 
 -- What a refill leaves: the places that stand for cells of the block are filled from these cells' own, all others are as
 -- they were; so a block whose own places and whose places of other cells hold values then holds them at all places.
