@@ -24,7 +24,8 @@ pub record IsPlacedIn (cells : List ℕ) (s k : ℕ) : Type 0 where
 pub record IsAim (frame : Frame) (cells : List ℕ) (aim : Aim) : Type 0 where
   pub to : aim.to.items ≡ filter (is_aimed frame cells) (all_places frame)
   pub count : length aim.from.items ≡ length aim.to.items
-  pub cell : (j : ℕ) → j < length aim.to.items → IsPlacedIn cells (stands_for frame (slice_index aim.to.items j)) (slice_index aim.from.items j)
+  pub cell : (j : ℕ) → j < length aim.to.items
+      → IsPlacedIn cells (stands_for frame (slice_index aim.to.items j)) (slice_index aim.from.items j)
 
 -- lists that can be put from so many values: their places lie within
 pub record IsAimFor (frame : Frame) (count : ℕ) (aim : Aim) : Type 0 where

@@ -31,8 +31,10 @@ pub record IsHome (frame : Frame) (s place : ℕ) : Type 0 where
 -- How places and cells belong together: a place at a constant shift from a cell's own stands for the neighbour at that
 -- offset, runs of places at a shift lie within, and the block's places are the homes of its cells.
 pub record IsFraming (frame : Frame) : Type 0 where
-  pub reaches : (a b : ℕ) (dx dy : ℤ) → IsSpot frame a b → IsReached frame dx dy → stands_for frame (first_of frame dx dy + step_to frame a b) ≡ neighbour_of frame.grid (cell_at frame a b) dx dy
-  pub within : (a b : ℕ) (dx dy : ℤ) → IsSpot frame a b → IsReached frame dx dy → first_of frame dx dy + step_to frame a b < places_in frame
+  pub reaches : (a b : ℕ) (dx dy : ℤ) → IsSpot frame a b → IsReached frame dx dy
+      → stands_for frame (first_of frame dx dy + step_to frame a b) ≡ neighbour_of frame.grid (cell_at frame a b) dx dy
+  pub within : (a b : ℕ) (dx dy : ℤ) → IsSpot frame a b → IsReached frame dx dy
+      → first_of frame dx dy + step_to frame a b < places_in frame
   pub ends : (dx dy : ℤ) → IsReached frame dx dy → first_of frame dx dy + span_of frame ≤ places_in frame
   pub steps : (a b : ℕ) → IsSpot frame a b → step_to frame a b < span_of frame
   pub few : places_in frame ≤ 2 ^ 24
@@ -44,8 +46,10 @@ pub record IsFraming (frame : Frame) : Type 0 where
   pub part : (s : ℕ) → (is_ours frame s ≡ true) ↔ IsInPart frame.grid frame.part s
   pub home : (a b : ℕ) → IsSpot frame a b → home_of frame (cell_at frame a b) ≡ place_at frame a b
   pub homes : (s : ℕ) → IsCell frame.grid s → is_ours frame s ≡ true → IsHome frame s (home_of frame s)
-  pub listed : (value : ℕ → ℤ) (field : List ℤ) → IsOwn frame value field → values_in frame field ≡ map value (cells_of_part frame.grid frame.part)
-  pub held : (value : ℕ → ℤ) (field : List ℤ) → values_in frame field ≡ map value (cells_of_part frame.grid frame.part) → IsOwn frame value field
+  pub listed : (value : ℕ → ℤ) (field : List ℤ) → IsOwn frame value field
+      → values_in frame field ≡ map value (cells_of_part frame.grid frame.part)
+  pub held : (value : ℕ → ℤ) (field : List ℤ)
+      → values_in frame field ≡ map value (cells_of_part frame.grid frame.part) → IsOwn frame value field
 
 -- a block that has all cells: its list is that of the grid, each cell is its own, and no place stands for another's
 pub record IsAlone (frame : Frame) : Type 0 where
@@ -61,4 +65,5 @@ row_at_places frame field b =
 -- the block's values are its rows, end to end
 abbrev pub IsInRows : Frame → Type 0
 IsInRows frame =
-    (field : List ℤ) → length field ≡ places_in frame → values_in frame field ≡ flat_map (row_at_places frame field) (numbers_below frame.part.rows.length)
+    (field : List ℤ) → length field ≡ places_in frame
+    → values_in frame field ≡ flat_map (row_at_places frame field) (numbers_below frame.part.rows.length)

@@ -31,7 +31,8 @@ IsArrived frame value field = HoldsWhere (is_far frame) frame value field
 -- What a refill leaves: the places that stand for cells of the block are filled from these cells' own, all others are as
 -- they were; so a block whose own places and whose places of other cells hold values then holds them at all places.
 pub record IsRefilled (frame : Frame) (old new : List ℤ) : Type 0 where
-  pub places : (place : ℕ) → place < places_in frame → value_at new place ≡ (if is_near frame place then value_at old (source_of frame place) else value_at old place)
+  pub places : (place : ℕ) → place < places_in frame
+      → value_at new place ≡ (if is_near frame place then value_at old (source_of frame place) else value_at old place)
   pub count : length new ≡ length old
   pub own : (value : ℕ → ℤ) → IsOwn frame value old → IsOwn frame value new
   pub arrived : (value : ℕ → ℤ) → IsArrived frame value old → IsArrived frame value new
