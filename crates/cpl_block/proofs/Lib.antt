@@ -1,0 +1,7 @@
+mod AimFacts
+mod FrameFacts
+mod ListFacts
+mod RingFacts
+mod RowFacts
+mod SizeFacts
+mod TotalFacts
