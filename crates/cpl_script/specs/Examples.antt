@@ -308,7 +308,8 @@ pub record ModelExamples : Type 0 where
   pub substeps : outcome_of (one_var (flat_grid 1 1) (Some (pos 1)) (units_rule 0) counting []) entries half_steps false
       ≡ ended 5 (end_of 2 4 (same_end None 1 (units 4) ∷ []) ∷ [])
   -- all cells read what their neighbours were: of 1, 2, 3 on a ring each becomes twice its right neighbour
-  pub neighbours : outcome_of (one_var (record { nx = 3; ny = 1; periodic = true }) None (sum_rule (cell_number ∷ [])) (sum_rule (beside 0 (pos 1) ∷ beside 0 (negsuc 1) ∷ [])) []) entries (steps_of 1) false
+  pub neighbours : outcome_of (one_var (record { nx = 3; ny = 1; periodic = true }) None (sum_rule (cell_number ∷ [])) (sum_rule (beside 0 (pos 1) ∷ beside 0 (negsuc 1) ∷ [])) [])
+      entries (steps_of 1) false
       ≡ ended 2 (end_of 1 1 (field_range None 2 6 12 ∷ []) ∷ [])
   -- a native entry: 5, 7.5, 8.75
   pub relaxed : outcome_of (one_var (flat_grid 1 1) None (units_rule 0) (Native 1 (here 0 ∷ Number (units 10) ∷ Number (pos 500000) ∷ [])) []) entries (steps_of 3) false
