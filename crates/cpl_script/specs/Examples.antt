@@ -359,7 +359,7 @@ spread_counting =
     coupling_of (parts_with
     (comp_of Model (flat_grid 5 1) 0 3 1 None (export_of (units_rule 0) ∷ []) (phase_of 1 (set_of 0 counting ∷ []) [] ∷ [])
     ∷ comp_of Model (flat_grid 5 1) 1 2 1 None (var_of (units_rule 0) ∷ import_of Current false ∷ [])
-        (phase_of 2 (set_of 0 (sum_rule (here 0 ∷ here 1 ∷ [])) ∷ []) [] ∷ []) ∷ [])
+    (phase_of 2 (set_of 0 (sum_rule (here 0 ∷ here 1 ∷ [])) ∷ []) [] ∷ []) ∷ [])
     (one_loop (line_of Redist 0 1 ∷ []) 3 (link_element 0 ∷ run_element 0 ∷ run_element 1 ∷ []))
     (only_pair ∷ []) (0 ∷ 1 ∷ []) (None ∷ []) 3)
 
