@@ -1,0 +1,6 @@
+mod BuildFacts
+mod ComponentFacts
+mod FileFacts
+mod ListFacts
+mod PartFacts
+mod SpanFacts

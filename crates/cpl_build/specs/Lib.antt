@@ -1,0 +1,7 @@
+pub mod Builds
+pub mod Causes
+pub mod Examples
+pub mod Faults
+pub mod Outlines
+pub mod Refusals
+pub mod WeightFiles
