@@ -1,5 +1,5 @@
 -- Parts that were made step by step are accepted; and lists that grow by one member.
-use Rattle.std.proofs.Common.{◌≡◌, ℕ, ℤ, pos, zero, suc, ◌+◌, ◌*◌, ◌<◌, ◌≤◌, ◌≤ℤ◌, ◌<ℤ◌, ◌+ℤ◌, ◌^◌, List, [], ◌∷◌, ◌++◌, Some, None, Option, length, get_or, map, take, ap, ◌∙◌, sym, refl, subst, arith}
+use Rattle.std.proofs.Common.{◌≡◌, ℕ, ℤ, pos, ◌+◌, ◌*◌, ◌<◌, ◌≤◌, ◌≤ℤ◌, ◌<ℤ◌, ◌+ℤ◌, ◌^◌, List, [], ◌∷◌, ◌++◌, Some, None, Option, length, get_or, map, take, ap, ◌∙◌, sym, refl, subst, arith}
 use Rattle.std.specs.Prelude.{IfSome, sum_by}
 use Rattle.std.specs.List.{All, cons_option, enumerate_from, filter_map, flat_map, zip}
 use Rattle.std.specs.Option.{ForSome, option_to_list}
@@ -18,16 +18,13 @@ use Rattle.cpl_grid.specs.Grid.{cells_in}
 use Rattle.cpl_init.specs.Waiting.{IsInitialOrder}
 use Rattle.cpl_match.specs.Pairs.{ArePairs}
 use Rattle.cpl_match.specs.declared.port.Pair.{Pair}
-use Rattle.cpl_runseq.specs.Asked.{AreNames, HasFewPhases, IsAsked, IsStep}
+use Rattle.cpl_runseq.specs.Asked.{HasFewPhases, IsAsked, IsStep}
 use Rattle.cpl_sequence.specs.Bounds.{IsOver}
 use Rattle.cpl_sequence.specs.Sequence.{Sequence}
-use Rattle.cpl_sequence.specs.declared.link_line.LinkLine.{LinkLine}
-use Rattle.cpl_sequence.specs.declared.seq_name.SeqName.{SeqName}
 use Rattle.cpl_smm.specs.Rows.{Table}
 use Rattle.cpl_script.specs.Matched.{cell_counts, name_of, names_of, ports_of, way_of}
 use Rattle.cpl_script.specs.Operations.{needs_in}
 use Rattle.cpl_script.specs.Sound.{AreParts, AreWeights}
-use Rattle.cpl_script.specs.declared.parts.SystemParts.{SystemParts}
 use Rattle.test_system.specs.Weighed.{AreRead, IsWeighed}
 
 -- ---- one member more
@@ -45,7 +42,7 @@ numbered-more f xs k x inside is =
 
 -- of what there is of one member
 lone : {X Y : Type 0} (f : X → Option Y) (x : X) → filter_map f (x ∷ []) ≡ option_to_list (f x)
-lone f x = elim (f x) as (λ o. cons_option o [] ≡ option_to_list o) [ | None ↦ refl | Some y ↦ refl ]
+lone f x = elim (f x) as (λ o. cons_option o [] ≡ option_to_list o) [ None ↦ refl | Some y ↦ refl ]
 
 -- of what there is of numbered members
 pub numbered-found : {X Y : Type 0} (f : ℕ × X → Option Y) (xs : List X) (k : ℕ) (x : X) → k < length xs → x ≡ get_or xs k x → filter_map f (take (k + 1) (enumerate_from 0 xs)) ≡ filter_map f (take k (enumerate_from 0 xs)) ++ option_to_list (f (k, x))
@@ -60,7 +57,7 @@ numbered-found f xs k x inside is =
     ∙ ap (λ ys. filter_map f (take k numbered) ++ ys) (lone f (k, x))
 
 -- of pairs of members
-pub zip-more : {X Y : Type 0} (xs : List X) (ys : List Y) (x : X) (y : Y) → length ys ≡ length xs → zip (xs ++ x ∷ []) (ys ++ y ∷ []) ≡ zip xs ys ++ (x, y) ∷ []
+zip-more : {X Y : Type 0} (xs : List X) (ys : List Y) (x : X) (y : Y) → length ys ≡ length xs → zip (xs ++ x ∷ []) (ys ++ y ∷ []) ≡ zip xs ys ++ (x, y) ∷ []
 zip-more [] [] x y same = refl
 zip-more [] (b ∷ ys) x y same = absurd (omega arith)
 zip-more (a ∷ xs) [] x y same = absurd (omega arith)
@@ -71,9 +68,9 @@ pub zip-next : {X Y : Type 0} (P : X × Y → Type 0) (xs : List X) (ys zs : Lis
 zip-next P xs ys zs i x y inside is count grown before this =
     let same : length ys ≡ length (take i xs) = omega (arith, length-take i xs) in
     let next : zip (take (i + 1) xs) zs ≡ zip (take i xs) ys ++ (x, y) ∷ [] =
-        (λ j. zip (take_more xs i x inside j) (grown j))
-        ∙ ap (λ z. zip (take i xs ++ z ∷ []) (ys ++ y ∷ [])) (sym is)
-        ∙ zip-more (take i xs) ys x y same in
+    (λ j. zip (take_more xs i x inside j) (grown j))
+    ∙ ap (λ z. zip (take i xs ++ z ∷ []) (ys ++ y ∷ [])) (sym is)
+    ∙ zip-more (take i xs) ys x y same in
     subst (All P) (sym next) (All-push P (zip (take i xs) ys) (x, y) before this)
 
 -- ---- components that a sequence can be read over

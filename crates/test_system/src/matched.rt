@@ -204,7 +204,5 @@ fn is_listed(need: Needs, count: u8) -> bool
 pub fn are_within(ports: &[Port], count: usize) -> bool
     ensures { IsTrue result ↔ All (λ port. port.component < count) ports.now }
 {
-    ports
-        .iter()
-        .all(|port| usize::from(port.component) < count)
+    ports.iter().all(|port| usize::from(port.component) < count)
 }

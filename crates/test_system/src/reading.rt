@@ -55,12 +55,7 @@ fn names_in(items: &Items) -> &[Text] {
 }
 
 /// The components of a file.
-pub fn comps_of(
-    alloc: Global,
-    items: &Items,
-    dict: &Dict,
-    pets: u8,
-) -> Result<Vec<Comp>, Fail>
+pub fn comps_of(alloc: Global, items: &Items, dict: &Dict, pets: u8) -> Result<Vec<Comp>, Fail>
     requires some { 1 ≤ pets }
     requires few { pets ≤ 64 }
     ensures { IfOk result (λ comps. All (IsComponent (record { pets = pets; alarms = 0; inputs = [] })) comps.items) }

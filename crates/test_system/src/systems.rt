@@ -14,31 +14,39 @@ use std::process::Abort;
 use std::test::Fail;
 
 /// A producer and a consumer on one PET: three steps, in which the consumer takes what the producer made before.
-const PAIR: &[u8] = b"EARTH_component_list: A B\ndictionary::\nlevel m\n::\nA_grid: 1 1\nA_export::\nx level m = 0\n::\nA_phase_run::\nx = x + 1\n::\nB_grid: 1 1\nB_vars::\ny = 0\n::\nB_import::\nx level m\n::\nB_phase_run::\ny = y + x\n::\nrunSeq::\n@1:3\nA -> B\nA\nB\n@\n::\n";
+const PAIR: &[u8] =
+    b"EARTH_component_list: A B\ndictionary::\nlevel m\n::\nA_grid: 1 1\nA_export::\nx level m = 0\n::\nA_phase_run::\nx = x + 1\n::\nB_grid: 1 1\nB_vars::\ny = 0\n::\nB_import::\nx level m\n::\nB_phase_run::\ny = y + x\n::\nrunSeq::\n@1:3\nA -> B\nA\nB\n@\n::\n";
 
 /// The same over five cells and three PETs, of which both have the second; one step.
-const SPREAD: &[u8] = b"EARTH_component_list: A B\ndictionary::\nlevel m\n::\nA_grid: 5 1\nA_export::\nx level m = 0\n::\nA_phase_run::\nx = x + 1\n::\nB_grid: 5 1\nB_vars::\ny = 0\n::\nB_import::\nx level m init\n::\nB_phase_run::\ny = y + x\n::\nrunSeq::\n@1:1\nA -> B\nA\nB\n@\n::\nA_petlist_bounds: 0 2\nB_petlist_bounds: 1 2\n";
+const SPREAD: &[u8] =
+    b"EARTH_component_list: A B\ndictionary::\nlevel m\n::\nA_grid: 5 1\nA_export::\nx level m = 0\n::\nA_phase_run::\nx = x + 1\n::\nB_grid: 5 1\nB_vars::\ny = 0\n::\nB_import::\nx level m init\n::\nB_phase_run::\ny = y + x\n::\nrunSeq::\n@1:1\nA -> B\nA\nB\n@\n::\nA_petlist_bounds: 0 2\nB_petlist_bounds: 1 2\n";
 
 /// A ring of three cells on three PETs, each of which reads both others.
-const RING: &[u8] = b"EARTH_component_list: A\ndictionary::\n::\nA_grid: 3 1 periodic\nA_vars::\nx = s\n::\nA_phase_run::\nx = x[1,0] + x[-2,0]\n::\nrunSeq::\n@1:1\nA\n@\n::\nA_petlist_bounds: 0 2\n";
+const RING: &[u8] =
+    b"EARTH_component_list: A\ndictionary::\n::\nA_grid: 3 1 periodic\nA_vars::\nx = s\n::\nA_phase_run::\nx = x[1,0] + x[-2,0]\n::\nrunSeq::\n@1:1\nA\n@\n::\nA_petlist_bounds: 0 2\n";
 
 /// A mediator with two phases, of which the second runs after the steps.
-const MEANS: &[u8] = b"EARTH_component_list: A B\ndictionary::\nlevel m\n::\nA_grid: 1 1\nA_export::\nx level m = 1\n::\nA_phase_run::\nx = x + x\n::\nB_grid: 1 1\nB_vars::\ny = 0\n::\nB_import::\nx level m\n::\nB_phase_run::\nadd y = x\n::\nrunSeq::\n@1:3\nA -> B\nB\nA\n@\n@1:1\nB mean\n@\n::\nB_kind: mediator\nB_phases: run mean\nB_phase_mean::\naverage y\n::\n";
+const MEANS: &[u8] =
+    b"EARTH_component_list: A B\ndictionary::\nlevel m\n::\nA_grid: 1 1\nA_export::\nx level m = 1\n::\nA_phase_run::\nx = x + x\n::\nB_grid: 1 1\nB_vars::\ny = 0\n::\nB_import::\nx level m\n::\nB_phase_run::\nadd y = x\n::\nrunSeq::\n@1:3\nA -> B\nB\nA\n@\n@1:1\nB mean\n@\n::\nB_kind: mediator\nB_phases: run mean\nB_phase_mean::\naverage y\n::\n";
 
 /// One cell that takes from the first and the third of three, which two PETs have.
-const WEIGHED: &[u8] = b"EARTH_component_list: A B\ndictionary::\nlevel m\n::\nA_grid: 3 1\nA_export::\nx level m = 0\n::\nA_phase_run::\nx = x\n::\nB_grid: 1 1\nB_vars::\ny = 0\n::\nB_import::\nx level m\n::\nB_phase_run::\ny = y + x\n::\nrunSeq::\n@1:1\nA -> B :remapMethod=weights:weightFile=w.csv\nA\nB\n@\n::\nA_petlist_bounds: 0 1\nB_petlist_bounds: 1 1\n";
+const WEIGHED: &[u8] =
+    b"EARTH_component_list: A B\ndictionary::\nlevel m\n::\nA_grid: 3 1\nA_export::\nx level m = 0\n::\nA_phase_run::\nx = x\n::\nB_grid: 1 1\nB_vars::\ny = 0\n::\nB_import::\nx level m\n::\nB_phase_run::\ny = y + x\n::\nrunSeq::\n@1:1\nA -> B :remapMethod=weights:weightFile=w.csv\nA\nB\n@\n::\nA_petlist_bounds: 0 1\nB_petlist_bounds: 1 1\n";
 
 /// The weights for it.
 const WEIGHTS: &[u8] = b"1,1,0.5\n3,1,0.5\n";
 
 /// One component without connectors, and how long its loop lasts.
-const STEPS: &[u8] = b"EARTH_component_list: A\ndictionary::\n::\nA_grid: 1 1\nA_vars::\nx = 0\n::\nA_phase_run::\nx = x + 1\n::\nrunSeq::\n@1:";
+const STEPS: &[u8] =
+    b"EARTH_component_list: A\ndictionary::\n::\nA_grid: 1 1\nA_vars::\nx = 0\n::\nA_phase_run::\nx = x + 1\n::\nrunSeq::\n@1:";
 
 /// A ring of 64 columns on as many PETs, and eight phases that read four columns beside the own one.
-const WIDE: &[u8] = b"dictionary::\n::\nA_grid: 64 16384 periodic\nA_petlist_bounds: 0 63\nA_vars::\nx = 0\n::\nA_phases: a b c d e f g h\nrunSeq::\n@1:1\nA a\n@\n::\n";
+const WIDE: &[u8] =
+    b"dictionary::\n::\nA_grid: 64 16384 periodic\nA_petlist_bounds: 0 63\nA_vars::\nx = 0\n::\nA_phases: a b c d e f g h\nrunSeq::\n@1:1\nA a\n@\n::\n";
 
 /// One more component, of two cells on two PETs, whose left cell reads the right one.
-const NARROW: &[u8] = b"B_grid: 2 1\nB_petlist_bounds: 0 1\nB_vars::\nx = 0\n::\nB_phase_run::\nx = x[1,0]\n::\n";
+const NARROW: &[u8] =
+    b"B_grid: 2 1\nB_petlist_bounds: 0 1\nB_vars::\nx = 0\n::\nB_phase_run::\nx = x[1,0]\n::\n";
 
 /// The system of a file, which isn't too large.
 fn accepted(
