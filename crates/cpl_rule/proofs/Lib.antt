@@ -1,0 +1,3 @@
+mod InputsFacts
+mod ShownFacts
+mod SweptFacts
