@@ -1,3 +1,5 @@
+mod AssignedFacts
 mod InputsFacts
+mod PlaceFacts
 mod ShownFacts
 mod SweptFacts

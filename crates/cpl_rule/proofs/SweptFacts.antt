@@ -1,9 +1,9 @@
 -- What a sweep over a block leaves.
-use Rattle.std.proofs.Common.{◌≡◌, ℕ, ◌+◌, ◌-◌, ◌<◌, ◌≤◌, List, ◌++◌, ℤ, pos, map, length, take, drop, get_or, refl, sym, ap, ◌∙◌, arith}
+use Rattle.std.proofs.Common.{◌≡◌, ℕ, ◌+◌, ◌-◌, ◌<◌, ◌≤◌, List, [], ◌∷◌, ◌++◌, ℤ, pos, map, set, length, take, drop, get_or, refl, sym, ap, subst, ◌∙◌, arith}
 use Rattle.std.specs.List.{All, range_with_len}
-use Rattle.std.proofs.lemmas.List.{get_or-append-add, get_or_append_left, length-append, length-drop, length-take-le}
-use Rattle.std.proofs.lemmas.List.Elements.{All-append, All-drop, All-take}
-use Rattle.std.proofs.lemmas.List.FromFn.{get_or-map-range_with_len, length-map-range_with_len}
+use Rattle.std.proofs.lemmas.List.{get_or-append-add, get_or_append_left, length-append, length-drop, length-take-le, take_more_set}
+use Rattle.std.proofs.lemmas.List.Elements.{All-append, All-cons, All-drop, All-nil, All-take}
+use Rattle.std.proofs.lemmas.List.FromFn.{get_or-map-range_with_len, length-map-range_with_len, map-range_with_len_more}
 use Rattle.cpl_base.specs.Numbers.{IsValue}
 use Rattle.cpl_block.specs.Frames.{IsOwn, IsSpot, cell_at, first_of, place_at, places_in, span_of, stands_for, step_to, value_at}
 use Rattle.cpl_block.specs.Laws.{IsFraming}
@@ -61,3 +61,16 @@ swept-block frame value first span len old new laws first_is span_is len_is long
           ap (λ n. value_at (take first old ++ (new ++ drop len (drop first old))) (n + step_to frame a b)) (sym first_is)
           ∙ at-sweep value first span len old new values fits (step_to frame a b) inside;
     }
+
+-- one cell of a run more
+pub ran-more : (value : ℕ → ℤ) (n : ℕ) (these : List ℤ) (v : ℤ) → n < length these → take n these ≡ map value (range_with_len 0 n) → v ≡ value n → take (n + 1) (set these n v) ≡ map value (range_with_len 0 (n + 1))
+ran-more value n these v inside before is =
+    take_more_set these n v inside
+    ∙ (λ i. before i ++ is i ∷ [])
+    ∙ sym (map-range_with_len_more value 0 n n (omega arith))
+
+-- and a value
+pub within-more : (n : ℕ) (these : List ℤ) (v : ℤ) → n < length these → All IsValue (take n these) → IsValue v → All IsValue (take (n + 1) (set these n v))
+within-more n these v inside before is =
+    let P : List ℤ → Type 0 = All IsValue in
+    subst P (sym (take_more_set these n v inside)) (All-append IsValue (take n these) (v ∷ []) before (All-cons IsValue v [] is (All-nil IsValue)))

@@ -1,3 +1,4 @@
+pub mod Assigned
 pub mod Inputs
 pub mod Moments
 pub mod Swept

@@ -2,8 +2,14 @@
 #![tactic(auto)]
 
 mod assigning;
+mod calling;
 mod inputs;
 mod moment;
+mod room;
+mod scene;
 
+pub use assigning::assign;
 pub use inputs::{input_count, place_inputs};
 pub use moment::{Moment, Times, moment_at};
+pub use room::{Room, room_of};
+pub use scene::Scene;
