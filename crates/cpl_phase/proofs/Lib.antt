@@ -1,0 +1,3 @@
+mod KeepingFacts
+mod RefreshedFacts
+mod SitesFacts

@@ -1,0 +1,5 @@
+pub mod Assignments
+pub mod Keeping
+pub mod Puts
+pub mod Refreshed
+pub mod Sites

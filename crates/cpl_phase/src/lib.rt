@@ -1,0 +1,11 @@
+//! Phases and start rules of a component, carried out over a block of its grid.
+#![tactic(auto)]
+
+mod filling;
+mod keeping;
+mod putting;
+mod refreshing;
+mod sites;
+
+pub use filling::assign_all;
+pub use sites::{Sites, sites_of};
