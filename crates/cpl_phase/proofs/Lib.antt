@@ -1,3 +1,7 @@
+mod AssignmentFacts
+mod HeldFacts
 mod KeepingFacts
+mod PutFacts
 mod RefreshedFacts
 mod SitesFacts
+mod WrittenFacts

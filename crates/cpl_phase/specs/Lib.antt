@@ -3,3 +3,4 @@ pub mod Keeping
 pub mod Puts
 pub mod Refreshed
 pub mod Sites
+pub mod Worlds

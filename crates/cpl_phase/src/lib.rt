@@ -6,6 +6,8 @@ mod keeping;
 mod putting;
 mod refreshing;
 mod sites;
+mod updating;
 
 pub use filling::assign_all;
 pub use sites::{Sites, sites_of};
+pub use updating::carry_out;

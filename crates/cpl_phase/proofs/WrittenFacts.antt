@@ -1,0 +1,45 @@
+-- What assignments leave, as writes.
+use Rattle.std.proofs.Common.{◌≡◌, ℕ, zero, suc, ◌+◌, ◌<◌, ◌≤◌, List, [], ◌∷◌, ℤ, get_or, length, map, refl, sym, ap, subst, ◌∙◌, arith}
+use Rattle.std.proofs.lemmas.List.Elements.{All-head, All-tail}
+use Rattle.std.specs.List.{All}
+use Rattle.cpl_block.specs.Frames.{IsOwn, stands_for}
+use Rattle.cpl_block.specs.Laws.{IsFraming}
+use Rattle.cpl_block.specs.declared.frame.Frame.{Frame}
+use Rattle.cpl_comp.proofs.CellFacts.{over_cells-at}
+use Rattle.cpl_comp.specs.Readings.{Reading, rule_value}
+use Rattle.cpl_comp.specs.Worlds.{cell_value, over_cells}
+use Rattle.cpl_comp.specs.Writes.{Write, set_write}
+use Rattle.cpl_comp.specs.declared.component.SetRow.{SetRow}
+use Rattle.cpl_entry.specs.Entries.{NativeEntry}
+use Rattle.cpl_grid.specs.Grid.{IsCell}
+use Rattle.cpl_grid.specs.Owners.{Layout}
+use Rattle.cpl_grid.specs.declared.grid.Grid.{Grid}
+use Rattle.cpl_sweep.specs.Places.{field_at}
+use Rattle.cpl_rule.specs.Assigned.{IsAssigned, answers_of}
+use Rattle.cpl_rule.specs.Inputs.{HoldReading, IsHaloed, arguments_of}
+use Rattle.cpl_rule.specs.Moments.{IsAt}
+use Rattle.cpl_rule.specs.declared.scene.Scene.{Scene}
+use Rattle.cpl_phase.specs.Worlds.{AreWritten}
+
+-- a value at each cell of the grid, at the cells of the block
+pub own-over : (frame : Frame) (layout : Layout) (value : ℕ → ℤ) (field : List ℤ) → IsFraming frame → layout.grid ≡ frame.grid → IsOwn frame value field → IsOwn frame (cell_value (over_cells layout value)) field
+own-over frame layout value field laws same own = λ place within is.
+    let P : Grid → Type 0 = λ grid. IsCell grid (stands_for frame place) in
+    own place within is ∙ sym (over_cells-at layout value (stands_for frame place) (subst P (sym same) (laws.cell place)))
+
+module _ (scene : Scene) (book : List NativeEntry) (halo : List ℕ) (reading : Reading) (fields : List (List ℤ)) (laws : IsFraming scene.frame) (at : IsAt scene.moment scene.frame.grid reading) (entries : reading.entries ≡ answers_of book) (held : HoldReading scene.frame scene.fields halo reading fields) where
+  -- one assignment
+  set-written : (row : SetRow) (other : List ℤ) → All (IsHaloed halo) (arguments_of row.rule) → IsAssigned scene book row.rule fields other → IsOwn scene.frame (cell_value (over_cells reading.layout (rule_value reading row.rule))) other
+  set-written row other haloed made =
+      own-over scene.frame reading.layout (rule_value reading row.rule) other laws at.over (made.own halo reading at entries haloed held)
+
+  -- all of them
+  pub sets-written : (rows : List SetRow) (others : List (List ℤ)) → length rows ≤ length others → All (λ row. All (IsHaloed halo) (arguments_of row.rule)) rows
+      → ((j : ℕ) (row : SetRow) → j < length rows → j < length rows → IsAssigned scene book (get_or rows j row).rule fields (field_at others j))
+      → AreWritten scene.frame (map (set_write reading) rows) others
+  sets-written [] others many haloed each = tt
+  sets-written (row ∷ rows) [] many haloed each = absurd (omega arith)
+  sets-written (row ∷ rows) (other ∷ others) many haloed each =
+      let Haloed : SetRow → Type 0 = λ row. All (IsHaloed halo) (arguments_of row.rule) in
+      (set-written row other (All-head Haloed row rows haloed) (each 0 row (omega arith) (omega arith)),
+      sets-written rows others (omega arith) (All-tail Haloed row rows haloed) (λ j r below within. each (suc j) r (omega arith) (omega arith)))
