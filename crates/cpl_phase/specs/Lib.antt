@@ -1,5 +1,6 @@
 pub mod Assignments
 pub mod Keeping
+pub mod Merging
 pub mod Puts
 pub mod Refreshed
 pub mod Sites

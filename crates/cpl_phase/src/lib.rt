@@ -3,6 +3,7 @@
 
 mod filling;
 mod keeping;
+mod merging;
 mod putting;
 mod refreshing;
 mod sites;

@@ -1,5 +1,5 @@
 mod AssignedFacts
 mod InputsFacts
 mod PlaceFacts
-mod ShownFacts
-mod SweptFacts
+pub mod ShownFacts
+pub mod SweptFacts
