@@ -1,4 +1,5 @@
 mod AssignmentFacts
+mod AverageFacts
 mod HeldFacts
 mod KeepingFacts
 mod PutFacts
