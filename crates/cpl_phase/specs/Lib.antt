@@ -1,4 +1,5 @@
 pub mod Assignments
+pub mod Checks
 pub mod Keeping
 pub mod Merging
 pub mod Puts

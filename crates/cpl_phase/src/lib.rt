@@ -1,6 +1,8 @@
 //! Phases and start rules of a component, carried out over a block of its grid.
 #![tactic(auto)]
 
+mod checking;
+mod fault;
 mod filling;
 mod keeping;
 mod merging;
@@ -9,6 +11,8 @@ mod refreshing;
 mod sites;
 mod updating;
 
+pub use checking::check_ranges;
+pub use fault::PhaseFault;
 pub use filling::assign_all;
 pub use sites::{Sites, sites_of};
 pub use updating::carry_out;
