@@ -1,5 +1,6 @@
 mod AssignmentFacts
 mod AverageFacts
+mod CheckFacts
 mod HeldFacts
 mod KeepingFacts
 mod PutFacts

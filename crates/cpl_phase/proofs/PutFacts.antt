@@ -12,7 +12,6 @@ use Rattle.cpl_block.specs.declared.frame.Frame.{Frame}
 use Rattle.cpl_comp.proofs.ChangeFacts.{changed-here, changed-other, length-changed}
 use Rattle.cpl_comp.specs.Worlds.{FieldWorld, cell_value, changed, field_at as world_at, no_field}
 use Rattle.cpl_comp.specs.Writes.{Write, all_written, written}
-use Rattle.cpl_comp.specs.declared.component.SetRow.{SetRow}
 use Rattle.cpl_sweep.specs.Places.{field_at}
 use Rattle.cpl_phase.specs.Puts.{AreBack, all_put}
 use Rattle.cpl_phase.specs.Refreshed.{AreOnBlock}
@@ -87,10 +86,10 @@ put-other count k (target ∷ targets) (other ∷ others) fields below past =
 -- ---- one row
 
 -- what is left to put, once one more is put
-pub put-more : (rows : List SetRow) (others fields : List (List ℤ)) (j : ℕ) (row : SetRow) (next : List ℤ) → j < length rows → j < length others
-    → all_put (map (λ row. row.field) (drop (j + 1) rows)) (drop (j + 1) (set others j next)) (set fields (get_or rows j row).field (get_or others j []))
-    ≡ all_put (map (λ row. row.field) (drop j rows)) (drop j others) fields
-put-more rows others fields j row next inside there =
+pub put-more : {A : Type 0} (target : A → ℕ) (rows : List A) (others fields : List (List ℤ)) (j : ℕ) (row : A) (next : List ℤ) → j < length rows → j < length others
+    → all_put (map target (drop (j + 1) rows)) (drop (j + 1) (set others j next)) (set fields (target (get_or rows j row)) (get_or others j []))
+    ≡ all_put (map target (drop j rows)) (drop j others) fields
+put-more target rows others fields j row next inside there =
     let later : drop (j + 1) (set others j next) ≡ drop (suc j) others = drop-set-lt (j + 1) others j next (omega arith) ∙ ap (λ n. drop n others) (add-one j) in
-    (λ i. all_put (map (λ row. row.field) (drop (add-one j i) rows)) (later i) (set fields (get_or rows j row).field (get_or others j [])))
-    ∙ sym (λ i. all_put (map (λ row. row.field) (drop-cons rows j row inside i)) (drop-cons others j [] there i) fields)
+    (λ i. all_put (map target (drop (add-one j i) rows)) (later i) (set fields (target (get_or rows j row)) (get_or others j [])))
+    ∙ sym (λ i. all_put (map target (drop-cons rows j row inside i)) (drop-cons others j [] there i) fields)

@@ -1,15 +1,22 @@
--- What assignments leave, as writes.
+-- What assignments and merges leave, as writes.
 use Rattle.std.proofs.Common.{◌≡◌, ℕ, zero, suc, ◌+◌, ◌<◌, ◌≤◌, List, [], ◌∷◌, ℤ, get_or, length, map, refl, sym, ap, subst, ◌∙◌, arith}
 use Rattle.std.proofs.lemmas.List.Elements.{All-head, All-tail}
 use Rattle.std.specs.List.{All}
-use Rattle.cpl_block.specs.Frames.{IsOwn, stands_for}
+use Rattle.cpl_block.specs.Frames.{IsOwn, IsSpot, cell_at, place_at, stands_for}
 use Rattle.cpl_block.specs.Laws.{IsFraming}
 use Rattle.cpl_block.specs.declared.frame.Frame.{Frame}
 use Rattle.cpl_comp.proofs.CellFacts.{over_cells-at}
 use Rattle.cpl_comp.specs.Readings.{Reading, rule_value}
 use Rattle.cpl_comp.specs.Worlds.{cell_value, over_cells}
-use Rattle.cpl_comp.specs.Writes.{Write, set_write}
+use Rattle.cpl_comp.specs.Writes.{Write, merge_value, merge_write, set_write}
+use Rattle.cpl_comp.specs.Components.{IsMerge, IsTerm}
+use Rattle.cpl_comp.specs.declared.component.MergeRow.{MergeRow}
 use Rattle.cpl_comp.specs.declared.component.SetRow.{SetRow}
+use Rattle.cpl_mediator.specs.Merges.{merge_of}
+use Rattle.cpl_rule.proofs.ShownFacts.{own-at}
+use Rattle.cpl_rule.proofs.SweptFacts.{own-swept}
+use Rattle.cpl_rule.specs.Swept.{IsSwept}
+use Rattle.cpl_phase.specs.Merging.{factors_at, merge_step}
 use Rattle.cpl_entry.specs.Entries.{NativeEntry}
 use Rattle.cpl_grid.specs.Grid.{IsCell}
 use Rattle.cpl_grid.specs.Owners.{Layout}
@@ -43,3 +50,31 @@ module _ (scene : Scene) (book : List NativeEntry) (halo : List ℕ) (reading : 
       let Haloed : SetRow → Type 0 = λ row. All (IsHaloed halo) (arguments_of row.rule) in
       (set-written row other (All-head Haloed row rows haloed) (each 0 row (omega arith) (omega arith)),
       sets-written rows others (omega arith) (All-tail Haloed row rows haloed) (λ j r below within. each (suc j) r (omega arith) (omega arith)))
+
+-- ---- merges
+
+module _ (frame : Frame) (count : ℕ) (halo : List ℕ) (reading : Reading) (fields : List (List ℤ)) (laws : IsFraming frame) (over : reading.layout.grid ≡ frame.grid) (held : HoldReading frame count halo reading fields) where
+  -- the factors at a cell
+  factors-held : (terms : List (ℕ × ℕ)) (a b : ℕ) → IsSpot frame a b → All (IsTerm count) terms → map (factors_at fields (place_at frame a b)) terms ≡ map (λ term. (reading.value term.0 (cell_at frame a b), reading.value term.1 (cell_at frame a b))) terms
+  factors-held [] a b spot among = refl
+  factors-held (term ∷ terms) a b spot among =
+      let here = All-head (IsTerm count) term terms among in
+      λ i. (own-at frame (reading.value term.0) (field_at fields term.0) a b laws (held.own term.0 here.first) spot i,
+      own-at frame (reading.value term.1) (field_at fields term.1) a b laws (held.own term.1 here.second) spot i)
+      ∷ factors-held terms a b spot (All-tail (IsTerm count) term terms among) i
+
+  -- one merge
+  merge-written : (row : MergeRow) (other : List ℤ) → IsMerge count row → IsSwept frame (merge_step frame row.terms fields) other → IsOwn frame (cell_value (over_cells reading.layout (merge_value reading row))) other
+  merge-written row other is swept =
+      own-over frame reading.layout (merge_value reading row) other laws over
+      (own-swept frame (merge_step frame row.terms fields) (merge_value reading row) other laws swept (λ a b spot. ap merge_of (factors-held row.terms a b spot is.terms)))
+
+  -- all of them
+  pub merges-written : (rows : List MergeRow) (others : List (List ℤ)) → length rows ≤ length others → All (IsMerge count) rows
+      → ((j : ℕ) (row : MergeRow) → j < length rows → j < length rows → IsSwept frame (merge_step frame (get_or rows j row).terms fields) (field_at others j))
+      → AreWritten frame (map (merge_write reading) rows) others
+  merges-written [] others many are each = tt
+  merges-written (row ∷ rows) [] many are each = absurd (omega arith)
+  merges-written (row ∷ rows) (other ∷ others) many are each =
+      (merge-written row other (All-head (IsMerge count) row rows are) (each 0 row (omega arith) (omega arith)),
+      merges-written rows others (omega arith) (All-tail (IsMerge count) row rows are) (λ j r below within. each (suc j) r (omega arith) (omega arith)))

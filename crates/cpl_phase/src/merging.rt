@@ -8,6 +8,7 @@ ghost use Rattle.cpl_comp.specs.Components.{IsMerge, IsTerm as IsTermOf};
 ghost use Rattle.cpl_mediator.specs.Merges.{IsTerm};
 ghost use Rattle.cpl_sweep.specs.Places.{field_at};
 ghost use Rattle.cpl_rule.specs.Swept.{IsSwept};
+ghost use Rattle.cpl_phase.specs.Assignments.{AreMerged};
 ghost use Rattle.cpl_phase.specs.Merging.{factors_at, merge_at, merge_step};
 ghost use Rattle.cpl_phase.specs.Refreshed.{AreOnBlock};
 
@@ -19,8 +20,35 @@ use cpl_mediator::merge;
 /// A merge has at most so many products.
 const TERMS: usize = 32;
 
+/// Writes the values of merges into other fields, from the fields of a component as they are.
+pub(crate) fn merge_all(frame: &Frame, rows: &[MergeRow], fields: &[Field], others: &mut [Field])
+    requires frame { IsFrame frame.now }
+    requires rows { All (IsMerge (length fields.now)) rows.now }
+    requires fields { AreOnBlock frame.now (length fields.now) fields.now }
+    requires count { length rows.now ≤ length others.old }
+    requires others { AreOnBlock frame.now (length others.old) others.old }
+    ensures values { AreMerged frame.now rows.now fields.now others.new }
+    ensures others { AreOnBlock frame.now (length others.old) others.new }
+{
+    for j in 0..rows.len() {
+        merge_field(frame, &rows[j], fields, &mut others[j]);
+    }
+}
+
+/// Writes the values of a merge into another field.
+fn merge_field(frame: &Frame, row: &MergeRow, fields: &[Field], out: &mut Field)
+    requires frame { IsFrame frame.now }
+    requires row { IsMerge (length fields.now) row.now }
+    requires fields { AreOnBlock frame.now (length fields.now) fields.now }
+    requires out { length out.old ≡ places_in frame.now }
+    requires out_values { All IsValue out.old }
+    ensures { IsSwept frame.now (merge_step frame.now row.now.terms fields.now) out.new }
+{
+    merge_block(frame, row, fields, out.values_mut());
+}
+
 /// Writes the values of a merge at all cells of a block.
-pub(crate) fn merge_block(frame: &Frame, row: &MergeRow, fields: &[Field], out: &mut [i64])
+fn merge_block(frame: &Frame, row: &MergeRow, fields: &[Field], out: &mut [i64])
     requires frame { IsFrame frame.now }
     requires row { IsMerge (length fields.now) row.now }
     requires fields { AreOnBlock frame.now (length fields.now) fields.now }
