@@ -1,11 +1,14 @@
 //! The ranges of a phase, checked over a block.
 
-ghost use Rattle.std.specs.Prelude.{◌≡◌, ◌+◌, ◌^◌, ◌<◌, ◌≤◌, All, length};
-ghost use Rattle.cpl_block.specs.Frames.{IsFrame, places_in, value_at};
-ghost use Rattle.cpl_sweep.specs.Places.{field_at};
+ghost use Rattle.std.specs.Prelude.{◌≡◌, ◌<◌, ◌≤◌, All, List, ℕ, length};
+ghost use Rattle.std.specs.List.{flat_map};
+ghost use Rattle.cpl_comp.specs.RunFaults.{cell_faults};
+ghost use Rattle.cpl_comp.specs.Worlds.{FieldWorld};
+ghost use Rattle.cpl_grid.specs.Parts.{cells_of_part};
 ghost use Rattle.cpl_phase.specs.Checks.{block_faults, least_fault, noted_fault, place_faults, value_fault};
 ghost use Rattle.cpl_phase.specs.Refreshed.{AreOnBlock};
 ghost use Rattle.cpl_phase.specs.Sites.{AreSites};
+ghost use Rattle.cpl_phase.specs.Worlds.{HoldFields};
 
 use crate::fault::{PhaseFault, note};
 use crate::sites::Sites;
@@ -17,6 +20,26 @@ use cpl_field::Field;
 ///
 /// Source: this project's own.
 pub fn check_ranges(
+    frame: &Frame,
+    sites: &Sites,
+    fields: &[Field],
+    rows: &[RangeRow],
+    found: &mut Option<PhaseFault>,
+)
+    requires sites { AreSites frame.now sites.now }
+    requires fields { AreOnBlock frame.now (length fields.now) fields.now }
+    requires rows { All (λ row. row.field < length fields.now) rows.now }
+    requires count { length rows.now ≤ 8 }
+    ensures value { noted_fault found.new ≡ least_fault (noted_fault found.old) (block_faults frame.now fields.now rows.now) }
+    // Those of the whole component at the block's cells.
+    ensures world { (count : ℕ) (world : List FieldWorld) → HoldFields frame.now count world fields.now → All (λ row. row.field < count) rows.now
+        → noted_fault found.new ≡ least_fault (noted_fault found.old) (flat_map (cell_faults world rows.now) (cells_of_part frame.now.grid frame.now.part)) }
+{
+    check_sites(frame, sites, fields, rows, found);
+}
+
+/// The same, without a whole component.
+fn check_sites(
     frame: &Frame,
     sites: &Sites,
     fields: &[Field],

@@ -2,7 +2,7 @@ use Rattle.std.proofs.Common.{◌≡◌, drop, length}
 use Rattle.std.specs.List.{flat_map}
 use Rattle.cpl_block.specs.Frames.{home_of}
 use Rattle.cpl_phase.specs.Checks.{block_faults, least_fault, noted_fault, place_faults}
-use Rattle.cpl_phase.proofs.checking.check_ranges.Given as goal
+use Rattle.cpl_phase.proofs.checking.check_sites.Given as goal
 
 -- what is left to check finds what all find
 abbrev pub invariant-loop-k : goal.invariant-loop-k
