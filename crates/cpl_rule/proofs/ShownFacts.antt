@@ -64,13 +64,13 @@ module _ (frame : Frame) (count : ℕ) (halo : List ℕ) (moment : Moment) (read
       let same : neighbour_of frame.grid (cell_at frame a b) dx dy ≡ neighbour_of reading.layout.grid (cell_at frame a b) dx dy = ap (λ grid. neighbour_of grid (cell_at frame a b) dx dy) (sym at.over) in
       elim (cases_Bool (is_here (dx, dy))) [
         | inl here ↦
-          let both = and_parts _ _ here in
-          here-at frame (reading.value k) (field_at fields k) a b dx dy laws (held.own k below) spot reached
-          ((Decides-int_eq dx (pos 0)).0 both.0) ((Decides-int_eq dy (pos 0)).0 both.1)
-          ∙ ap (reading.value k) same
+            let both = and_parts _ _ here in
+            here-at frame (reading.value k) (field_at fields k) a b dx dy laws (held.own k below) spot reached
+            ((Decides-int_eq dx (pos 0)).0 both.0) ((Decides-int_eq dy (pos 0)).0 both.1)
+            ∙ ap (reading.value k) same
         | inr beside_it ↦
-          ringed-at frame (reading.value k) (field_at fields k) a b dx dy laws (held.ringed k (beside beside_it)) spot reached
-          ∙ ap (reading.value k) same
+            ringed-at frame (reading.value k) (field_at fields k) a b dx dy laws (held.ringed k (beside beside_it)) spot reached
+            ∙ ap (reading.value k) same
       ]
 
   -- a number, of the same timing and moment

@@ -49,7 +49,16 @@ pub fn assign(
     let places = room.places.as_mut_slice();
     let inputs = room.inputs.values_mut();
     let scratch = room.scratch.values_mut();
-    assign_in(scene, book, rule, fields, places, inputs, scratch, out.values_mut());
+    assign_in(
+        scene,
+        book,
+        rule,
+        fields,
+        places,
+        inputs,
+        scratch,
+        out.values_mut(),
+    );
 }
 
 /// The same, in room that is lent.
@@ -79,10 +88,25 @@ fn assign_in(
     place_inputs(&scene.frame, scene.fields, &scene.moment, rule, places);
     match rule {
         Rule::Plain(parsed) => {
-            sweep_block(&scene.frame, &parsed.get().tree, places, fields, scratch, out)
+            sweep_block(
+                &scene.frame,
+                &parsed.get().tree,
+                places,
+                fields,
+                scratch,
+                out,
+            )
         }
         Rule::Native { entry, .. } => {
-            call_block(&scene.frame, book, *entry, places, fields, &mut inputs[..count], out)
+            call_block(
+                &scene.frame,
+                book,
+                *entry,
+                places,
+                fields,
+                &mut inputs[..count],
+                out,
+            )
         }
     }
 }

@@ -38,7 +38,14 @@ pub(crate) fn call_block(
     frame_laws(frame);
     let first = frame.first(0, 0) as usize;
     let span = frame.span() as usize;
-    call_run(book, entry, places, fields, inputs, &mut out[first..first + span]);
+    call_run(
+        book,
+        entry,
+        places,
+        fields,
+        inputs,
+        &mut out[first..first + span],
+    );
 }
 
 /// Writes the answers of an entry at a run of cells.

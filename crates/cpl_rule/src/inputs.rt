@@ -30,13 +30,7 @@ pub fn input_count(rule: &Rule) -> usize
 /// reads no farther than the ring. Takes no memory.
 ///
 /// Source: this project's own.
-pub fn place_inputs(
-    frame: &Frame,
-    fields: u16,
-    moment: &Moment,
-    rule: &Rule,
-    places: &mut [Place],
-)
+pub fn place_inputs(frame: &Frame, fields: u16, moment: &Moment, rule: &Rule, places: &mut [Place])
     requires frame { IsFrame frame.now }
     requires fields { fields ≤ 64 }
     requires moment { IsMoment moment.now }
@@ -45,19 +39,19 @@ pub fn place_inputs(
     ensures { places.new ≡ places_of_rule frame.now fields moment.now rule.now }
 {
     match rule {
-        Rule::Plain(parsed) => place_reads(frame, fields, moment, parsed.get().reads.items(), places),
+        Rule::Plain(parsed) => place_reads(
+            frame,
+            fields,
+            moment,
+            parsed.get().reads.items(),
+            places,
+        ),
         Rule::Native { reads, .. } => place_arguments(frame, fields, moment, reads.items(), places),
     }
 }
 
 /// Writes where reads come from.
-fn place_reads(
-    frame: &Frame,
-    fields: u16,
-    moment: &Moment,
-    reads: &[Read],
-    places: &mut [Place],
-)
+fn place_reads(frame: &Frame, fields: u16, moment: &Moment, reads: &[Read], places: &mut [Place])
     requires frame { IsFrame frame.now }
     requires fields { fields ≤ 64 }
     requires moment { IsMoment moment.now }

@@ -3,12 +3,14 @@
 
 mod assigning;
 mod calling;
+mod examples;
 mod inputs;
 mod moment;
 mod room;
 mod scene;
 
 pub use assigning::assign;
+pub use examples::rule_examples;
 pub use inputs::{input_count, place_inputs};
 pub use moment::{Moment, Times, moment_at};
 pub use room::{Room, room_of};
