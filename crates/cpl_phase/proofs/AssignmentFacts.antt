@@ -20,10 +20,10 @@ assigned-more scene book rows fields others j out row inside there before made =
     let P : List ℤ → Type 0 = λ field. IsAssigned scene book (get_or rows i other).rule fields field in
     elim (cases_eq i j) [
       | inl same ↦
-        let R : SetRow → Type 0 = λ r. IsAssigned scene book r.rule fields out in
-        let at : get_or rows j row ≡ get_or rows i other = get_or_default rows j row other inside ∙ ap (λ n. get_or rows n other) (sym same) in
-        let Q : ℕ → Type 0 = λ n. IsAssigned scene book (get_or rows i other).rule fields (field_at (set others j out) n) in
-        subst Q (sym same) (subst P (sym (get_or-set_same others j out [] there)) (subst R at made))
+          let R : SetRow → Type 0 = λ r. IsAssigned scene book r.rule fields out in
+          let at : get_or rows j row ≡ get_or rows i other = get_or_default rows j row other inside ∙ ap (λ n. get_or rows n other) (sym same) in
+          let Q : ℕ → Type 0 = λ n. IsAssigned scene book (get_or rows i other).rule fields (field_at (set others j out) n) in
+          subst Q (sym same) (subst P (sym (get_or-set_same others j out [] there)) (subst R at made))
       | inr not ↦ subst P (sym (get_or-set_other others j i out [] not)) (before i other (omega arith) within)
     ]
 
@@ -34,9 +34,9 @@ merged-more frame rows fields others j out row inside there before made = λ i o
     let P : List ℤ → Type 0 = λ field. IsSwept frame (merge_step frame (get_or rows i other).terms fields) field in
     elim (cases_eq i j) [
       | inl same ↦
-        let R : MergeRow → Type 0 = λ r. IsSwept frame (merge_step frame r.terms fields) out in
-        let at : get_or rows j row ≡ get_or rows i other = get_or_default rows j row other inside ∙ ap (λ n. get_or rows n other) (sym same) in
-        let Q : ℕ → Type 0 = λ n. IsSwept frame (merge_step frame (get_or rows i other).terms fields) (field_at (set others j out) n) in
-        subst Q (sym same) (subst P (sym (get_or-set_same others j out [] there)) (subst R at made))
+          let R : MergeRow → Type 0 = λ r. IsSwept frame (merge_step frame r.terms fields) out in
+          let at : get_or rows j row ≡ get_or rows i other = get_or_default rows j row other inside ∙ ap (λ n. get_or rows n other) (sym same) in
+          let Q : ℕ → Type 0 = λ n. IsSwept frame (merge_step frame (get_or rows i other).terms fields) (field_at (set others j out) n) in
+          subst Q (sym same) (subst P (sym (get_or-set_same others j out [] there)) (subst R at made))
       | inr not ↦ subst P (sym (get_or-set_other others j i out [] not)) (before i other (omega arith) within)
     ]

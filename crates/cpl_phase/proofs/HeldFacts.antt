@@ -26,8 +26,8 @@ among-at [] n among = absurd (true≢false (sym among))
 among-at (k ∷ numbers) n among = elim (cases_Bool (k == n)) [
   | inl same ↦ record { j = 0; within = omega arith; is = eqb-true k n same }
   | inr other ↦
-    let later = among-at numbers n (rw other at among) in
-    record { j = suc later.j; within = (let below = later.within in omega arith); is = later.is }
+      let later = among-at numbers n (rw other at among) in
+      record { j = suc later.j; within = (let below = later.within in omega arith); is = later.is }
 ]
 
 module _ (frame : Frame) (count : ℕ) (halo : List ℕ) (world : List FieldWorld) (old new : List (List ℤ)) (laws : IsFraming frame) (filled : AreRefilled frame halo old new) (few : All (λ k. k < count) halo) (hold : HoldFields frame count world old) where

@@ -37,18 +37,18 @@ module _ (frame : Frame) (sites : Sites) (are : AreSites frame sites) where
       let put = set field home (get_or cells k (pos 0)) in
       elim (cases_eq (slice_index sites.homes.items j) home) [
         | inl same ↦
-          let also : j < length sites.homes.items = omega arith in
-          let within : k < length sites.cells.items = omega (arith, many-homes) in
-          ap (value_at put) same
-          ∙ get_or-set_same field home (get_or cells k (pos 0)) (pos 0) there
-          ∙ ap (λ xs. get_or xs k (pos 0)) is
-          ∙ get_or-map value sites.cells.items k 0 (pos 0) within
-          ∙ ap value (sym (cell-of k inside) ∙ ap (stands_for frame) (sym same) ∙ cell-of j also)
+            let also : j < length sites.homes.items = omega arith in
+            let within : k < length sites.cells.items = omega (arith, many-homes) in
+            ap (value_at put) same
+            ∙ get_or-set_same field home (get_or cells k (pos 0)) (pos 0) there
+            ∙ ap (λ xs. get_or xs k (pos 0)) is
+            ∙ get_or-map value sites.cells.items k 0 (pos 0) within
+            ∙ ap value (sym (cell-of k inside) ∙ ap (stands_for frame) (sym same) ∙ cell-of j also)
         | inr other ↦
-          elim (cases_eq j k) [
-            | inl at ↦ absurd (other (ap (slice_index sites.homes.items) at))
-            | inr not ↦ get_or-set_other field home (slice_index sites.homes.items j) (get_or cells k (pos 0)) (pos 0) other ∙ before j (omega arith)
-          ]
+            elim (cases_eq j k) [
+              | inl at ↦ absurd (other (ap (slice_index sites.homes.items) at))
+              | inr not ↦ get_or-set_other field home (slice_index sites.homes.items j) (get_or cells k (pos 0)) (pos 0) other ∙ before j (omega arith)
+            ]
       ]
 
   -- all values are at their places

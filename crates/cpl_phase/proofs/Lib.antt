@@ -3,6 +3,7 @@ mod AverageFacts
 mod CheckFacts
 mod HeldFacts
 mod KeepingFacts
+mod KeptFacts
 mod PutFacts
 mod RefreshedFacts
 mod SitesFacts

@@ -30,15 +30,15 @@ module _ (frame : Frame) (count : ℕ) (laws : IsFraming frame) where
         number = length-changed change k world ∙ hold.number;
         values = λ j within. elim (cases_eq j k) [
           | inl same ↦
-            let Q : ℕ → Type 0 = λ n. values_in frame (field_at (set fields k other) n) ≡ block_values frame (world_at (changed change k world) n) in
-            subst Q (sym same)
-            (ap (values_in frame) (get_or-set_same fields k other [] there)
-            ∙ laws.listed (cell_value write.values) other is
-            ∙ ap (block_values frame) (sym (changed-here change k world no_field inside)))
+              let Q : ℕ → Type 0 = λ n. values_in frame (field_at (set fields k other) n) ≡ block_values frame (world_at (changed change k world) n) in
+              subst Q (sym same)
+              (ap (values_in frame) (get_or-set_same fields k other [] there)
+              ∙ laws.listed (cell_value write.values) other is
+              ∙ ap (block_values frame) (sym (changed-here change k world no_field inside)))
           | inr not ↦
-            ap (values_in frame) (get_or-set_other fields k j other [] not)
-            ∙ hold.values j within
-            ∙ ap (block_values frame) (sym (changed-other change k j world no_field not))
+              ap (values_in frame) (get_or-set_other fields k j other [] not)
+              ∙ hold.values j within
+              ∙ ap (block_values frame) (sym (changed-other change k j world no_field not))
         ];
       }
 

@@ -32,9 +32,9 @@ on-block-set frame number fields k new on long values = record {
 set-keeps : (P : List ℤ → Type 0) (fields : List (List ℤ)) (k j : ℕ) (new : List ℤ) → k < length fields → (P (field_at fields k) → P new) → P (field_at fields j) → P (field_at (set fields k new) j)
 set-keeps P fields k j new there keeps holds = elim (cases_eq j k) [
   | inl same ↦
-    let Q : ℕ → Type 0 = λ n. P (field_at fields n) in
-    let R : ℕ → Type 0 = λ n. P (field_at (set fields k new) n) in
-    subst R (sym same) (subst P (sym (get_or-set_same fields k new [] there)) (keeps (subst Q same holds)))
+      let Q : ℕ → Type 0 = λ n. P (field_at fields n) in
+      let R : ℕ → Type 0 = λ n. P (field_at (set fields k new) n) in
+      subst R (sym same) (subst P (sym (get_or-set_same fields k new [] there)) (keeps (subst Q same holds)))
   | inr other ↦ subst P (sym (get_or-set_other fields k j new [] other)) holds
 ]
 
@@ -51,8 +51,8 @@ refilled-more frame halo j k old now new there is before refilled = record {
       let P : List ℤ → Type 0 = IsRinged frame value in
       elim (cases_eq (slice_index halo i) k) [
         | inl same ↦
-          subst R (sym same) (subst P (sym (get_or-set_same now k new [] there))
-          (refilled.ringed value (before.own k value (subst O same own)) (before.arrived k value (subst A same arrived))))
+            subst R (sym same) (subst P (sym (get_or-set_same now k new [] there))
+            (refilled.ringed value (before.own k value (subst O same own)) (before.arrived k value (subst A same arrived))))
         | inr other ↦ elim (cases_eq i j) [
           | inl at ↦ absurd (other (ap (slice_index halo) at ∙ is))
           | inr before_it ↦ subst P (sym (get_or-set_other now k (slice_index halo i) new [] other)) (before.ringed i value (omega arith) own arrived)

@@ -47,9 +47,10 @@ module _ (scene : Scene) (book : List NativeEntry) (halo : List ℕ) (reading : 
   sets-written [] others many haloed each = tt
   sets-written (row ∷ rows) [] many haloed each = absurd (omega arith)
   sets-written (row ∷ rows) (other ∷ others) many haloed each =
-      let Haloed : SetRow → Type 0 = λ row. All (IsHaloed halo) (arguments_of row.rule) in
-      (set-written row other (All-head Haloed row rows haloed) (each 0 row (omega arith) (omega arith)),
-      sets-written rows others (omega arith) (All-tail Haloed row rows haloed) (λ j r below within. each (suc j) r (omega arith) (omega arith)))
+      let Haloed : SetRow → Type 0 = λ row. All (IsHaloed halo) (arguments_of row.rule) in (
+        set-written row other (All-head Haloed row rows haloed) (each 0 row (omega arith) (omega arith)),
+        sets-written rows others (omega arith) (All-tail Haloed row rows haloed) (λ j r below within. each (suc j) r (omega arith) (omega arith)),
+      )
 
 -- ---- merges
 
@@ -59,8 +60,10 @@ module _ (frame : Frame) (count : ℕ) (halo : List ℕ) (reading : Reading) (fi
   factors-held [] a b spot among = refl
   factors-held (term ∷ terms) a b spot among =
       let here = All-head (IsTerm count) term terms among in
-      λ i. (own-at frame (reading.value term.0) (field_at fields term.0) a b laws (held.own term.0 here.first) spot i,
-      own-at frame (reading.value term.1) (field_at fields term.1) a b laws (held.own term.1 here.second) spot i)
+      λ i. (
+        own-at frame (reading.value term.0) (field_at fields term.0) a b laws (held.own term.0 here.first) spot i,
+        own-at frame (reading.value term.1) (field_at fields term.1) a b laws (held.own term.1 here.second) spot i,
+      )
       ∷ factors-held terms a b spot (All-tail (IsTerm count) term terms among) i
 
   -- one merge
@@ -75,6 +78,7 @@ module _ (frame : Frame) (count : ℕ) (halo : List ℕ) (reading : Reading) (fi
       → AreWritten frame (map (merge_write reading) rows) others
   merges-written [] others many are each = tt
   merges-written (row ∷ rows) [] many are each = absurd (omega arith)
-  merges-written (row ∷ rows) (other ∷ others) many are each =
-      (merge-written row other (All-head (IsMerge count) row rows are) (each 0 row (omega arith) (omega arith)),
-      merges-written rows others (omega arith) (All-tail (IsMerge count) row rows are) (λ j r below within. each (suc j) r (omega arith) (omega arith)))
+  merges-written (row ∷ rows) (other ∷ others) many are each = (
+    merge-written row other (All-head (IsMerge count) row rows are) (each 0 row (omega arith) (omega arith)),
+    merges-written rows others (omega arith) (All-tail (IsMerge count) row rows are) (λ j r below within. each (suc j) r (omega arith) (omega arith)),
+  )

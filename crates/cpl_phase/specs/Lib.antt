@@ -1,6 +1,7 @@
 pub mod Assignments
 pub mod Checks
 pub mod Keeping
+pub mod Kept
 pub mod Merging
 pub mod Puts
 pub mod Refreshed

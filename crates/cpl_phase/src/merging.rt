@@ -59,7 +59,12 @@ fn merge_block(frame: &Frame, row: &MergeRow, fields: &[Field], out: &mut [i64])
     frame_laws(frame);
     let first = frame.first(0, 0) as usize;
     let span = frame.span() as usize;
-    merge_run(row.terms.items(), fields, first, &mut out[first..first + span]);
+    merge_run(
+        row.terms.items(),
+        fields,
+        first,
+        &mut out[first..first + span],
+    );
 }
 
 /// Writes the values of a merge at a run of places.

@@ -15,8 +15,8 @@ returns-in-Ok-clause-written c = λ layout values kept same stands own.
     let value : ℕ → ℤ = λ s. average_at kept (s - 1) in
     let some : accum.count ≢ 0 = λ none. c.if-count-eq0.false (c.count.ensures.value ∙ none) in
     let many : length accum.sums ≡ length (cells_of_part frame.grid frame.part) =
-        c.requires.accum.sums some ∙ many-homes frame sites are ∙ ap length are.listed in
+    c.requires.accum.sums some ∙ many-homes frame sites are ∙ ap length are.listed in
     let cells : c.average.new.into ≡ map value sites.cells.items =
-        c.in-Ok.ensures.value (kept_in frame kept) stands ∙ averages-in frame kept (length accum.sums) many ∙ ap (map value) (sym are.listed) in
+    c.in-Ok.ensures.value (kept_in frame kept) stands ∙ averages-in frame kept (length accum.sums) many ∙ ap (map value) (sym are.listed) in
     mean-some frame layout accum values kept c.scatter_field.new.field c.frame_laws.ensures same some stands
     (c.scatter_field.ensures.cells value cells ∙ ap (map value) are.listed)

@@ -19,7 +19,7 @@ loop-k-preserved c =
     let value_is : IsValue (get_or c.args.cells.now k (pos 0)) = c.requires.cells_values k (pos 0) c.loop-k-test.true in
     let fits : FitsSigned w64 (get_or c.args.cells.now k (pos 0)) = omega (arith, ints, value_is) in
     let made : c.put.new.field ≡ set c.loop-k.field (slice_index homes k) (get_or c.args.cells.now k (pos 0)) =
-        c.put.ensures ∙ (λ i. set c.loop-k.field (at i) (to_z-of_z fits i)) in
+    c.put.ensures ∙ (λ i. set c.loop-k.field (at i) (to_z-of_z fits i)) in
     let there : slice_index homes k < length c.loop-k.field = omega (arith, c.requires.sites.within k 0 inside, c.requires.field, c.loop-k.auto.field) in
     let V : List ℤ → Type 0 = All IsValue in
     record {

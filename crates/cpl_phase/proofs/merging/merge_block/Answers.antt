@@ -14,7 +14,7 @@ returns c =
     let out = c.args.out.now in
     let n = length (take (first + span - first) (drop first out)) in
     let made : c.merge_run.new.these ≡ map (merge_step frame terms fields) (range_with_len 0 n) =
-        c.merge_run.ensures.values
-        ∙ (λ i. map (λ step. merge_at (c.items.ensures i) fields (c.first-first.ensures.value i + step)) (range_with_len 0 n)) in
+    c.merge_run.ensures.values
+    ∙ (λ i. map (λ step. merge_at (c.items.ensures i) fields (c.first-first.ensures.value i + step)) (range_with_len 0 n)) in
     swept-block frame (merge_step frame terms fields) first span (first + span - first) out c.merge_run.new.these
     c.frame_laws.ensures c.first-first.ensures.value c.span-span.ensures.value (omega arith) c.requires.out c.requires.out_values c.merge_run.ensures.within made

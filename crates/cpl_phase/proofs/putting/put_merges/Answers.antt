@@ -14,7 +14,7 @@ loop-j-preserved c =
     let at : k < length c.loop-j.fields = omega (arith, asked, c.loop-j.auto.fields) in
     let inside : j < length c.loop-j.others = omega (arith, c.loop-j-test.true, c.requires.count, c.loop-j.auto.others) in
     let new_fields : c.replace.new.fields ≡ set c.loop-j.fields k (get_or c.loop-j.others j []) =
-        c.replace.ensures.fields ∙ ap (set c.loop-j.fields k) (get_or_default c.loop-j.others j c.index-others-j.result [] inside) in
+    c.replace.ensures.fields ∙ ap (set c.loop-j.fields k) (get_or_default c.loop-j.others j c.index-others-j.result [] inside) in
     let Back : List ℤ → Type 0 = λ next. AreBack c.args.fields.now c.args.others.now (set c.loop-j.others j next) in
     let There : List (List ℤ) → Type 0 = λ fields. AreBack c.args.others.now c.args.fields.now fields in
     record {

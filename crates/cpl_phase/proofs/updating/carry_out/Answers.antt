@@ -55,8 +55,8 @@ returns-clause-written g c = λ reading world at entries same hold arrived.
     let merge_below : All Below merge_writes = All-map Below (merge_write reading) merges c.requires.merge_targets in
     let Middle : List (List ℤ) → Type 0 = λ fields. HoldFields frame count (all_written world set_writes) fields in
     let hold_middle : HoldFields frame count (all_written world set_writes) middle = subst Middle
-        (ap (λ targets. all_put targets assigned now) (map-map (λ (write : Write). write.field) (set_write reading) sets) ∙ sym c.put_sets.ensures.fields)
-        (put-all frame count laws set_writes world assigned now set_below long (hold-refilled frame count c.args.halo.now world c.args.fields.now now laws filled c.requires.halo hold) set_written) in
+    (ap (λ targets. all_put targets assigned now) (map-map (λ (write : Write). write.field) (set_write reading) sets) ∙ sym c.put_sets.ensures.fields)
+    (put-all frame count laws set_writes world assigned now set_below long (hold-refilled frame count c.args.halo.now world c.args.fields.now now laws filled c.requires.halo hold) set_written) in
     let World : List FieldWorld → Type 0 = λ w. HoldFields frame count w c.put_merges.new.fields in
     let Last : List (List ℤ) → Type 0 = λ fields. HoldFields frame count (all_written (all_written world set_writes) merge_writes) fields in
     subst World (sym (fold-append written world set_writes merge_writes))
@@ -86,10 +86,10 @@ returns-clause-numbers g c =
     let set_below : All Below set_targets = All-map Below (λ (row : SetRow). row.field) c.args.sets.now c.requires.targets in
     let merge_below : All Below merge_targets = All-map Below (λ (row : MergeRow). row.field) c.args.merges.now c.requires.merge_targets in
     let stays : (k : ℕ) → count ≤ k → field_at now k ≡ field_at c.put_merges.new.fields k = λ k past.
-        sym (put-other count k set_targets c.assign_all.new.others now set_below past)
-        ∙ ap (λ fields. field_at fields k) (sym c.put_sets.ensures.fields)
-        ∙ sym (put-other count k merge_targets c.merge_all.new.others c.put_sets.new.fields merge_below past)
-        ∙ ap (λ fields. field_at fields k) (sym c.put_merges.ensures.fields) in
+    sym (put-other count k set_targets c.assign_all.new.others now set_below past)
+    ∙ ap (λ fields. field_at fields k) (sym c.put_sets.ensures.fields)
+    ∙ sym (put-other count k merge_targets c.merge_all.new.others c.put_sets.new.fields merge_below past)
+    ∙ ap (λ fields. field_at fields k) (sym c.put_merges.ensures.fields) in
     let C : List ℤ → Type 0 = IsOwn scene.frame (λ s. whole (pos (column_of scene.frame.grid s))) in
     let R : List ℤ → Type 0 = IsOwn scene.frame (λ s. whole (pos (row_of scene.frame.grid s))) in
     let S : List ℤ → Type 0 = IsOwn scene.frame (λ s. whole (pos s)) in

@@ -1,0 +1,39 @@
+-- What is kept, as it is forgotten field by field.
+use Rattle.std.proofs.Common.{◌≡◌, ◌≢◌, ℕ, ◌+◌, ◌<◌, ◌≤◌, List, [], ◌∷◌, ◌++◌, ℤ, fold, get_or, length, refl, set, sym, ap, subst, take, ◌∙◌, inl, inr, arith}
+use Rattle.std.proofs.lemmas.Bool.{cases_eq}
+use Rattle.std.proofs.lemmas.List.{get_or-set_other, get_or-set_same, length-set, take_more}
+use Rattle.std.proofs.lemmas.List.Sums.{fold-append}
+use Rattle.std.specs.Prelude.{slice_index}
+use Rattle.cpl_block.specs.declared.frame.Frame.{Frame}
+use Rattle.cpl_comp.proofs.ChangeFacts.{changed-here, changed-other, length-changed}
+use Rattle.cpl_comp.specs.Worlds.{FieldWorld, changed, field_at as world_at, no_field}
+use Rattle.cpl_comp.specs.Writes.{emptied}
+use Rattle.cpl_mediator.specs.Averages.{RunningSums, StandsFor, no_sums}
+use Rattle.cpl_phase.specs.Keeping.{StandsForBlock, kept_in}
+use Rattle.cpl_phase.specs.Kept.{StandForKept, accum_at}
+
+-- nothing is kept for one field any more
+pub forgotten-one : (frame : Frame) (count : ℕ) (world : List FieldWorld) (accums : List RunningSums) (k : ℕ) (new : RunningSums) → k < length accums → StandsFor new [] → StandForKept frame count world accums → StandForKept frame count (emptied world k) (set accums k new)
+forgotten-one frame count world accums k new there none before =
+    let change : FieldWorld → FieldWorld = λ field. record field { kept = [] } in
+    record {
+      number = length-changed change k world ∙ before.number;
+      each = λ i below. elim (cases_eq i k) [
+        | inl same ↦
+            let inside : k < length world = omega (arith, below, same, before.number) in
+            let here : (world_at (changed change k world) k).kept ≡ [] = ap (λ (field : FieldWorld). field.kept) (changed-here change k world no_field inside) in
+            let P : ℕ → Type 0 = λ n. StandsForBlock frame (accum_at (set accums k new) n) (world_at (changed change k world) n).kept in
+            let Q : List (List ℤ) → Type 0 = λ kept. StandsForBlock frame new kept in
+            let R : RunningSums → Type 0 = λ a. StandsForBlock frame a (world_at (changed change k world) k).kept in
+            subst P (sym same) (subst R (sym (get_or-set_same accums k new (no_sums 0) there)) (subst Q (sym here) none))
+        | inr other ↦
+            let Q : FieldWorld → Type 0 = λ field. StandsForBlock frame (accum_at accums i) field.kept in
+            let R : RunningSums → Type 0 = λ a. StandsForBlock frame a (world_at (changed change k world) i).kept in
+            subst R (sym (get_or-set_other accums k i new (no_sums 0) other)) (subst Q (sym (changed-other change k i world no_field other)) (before.each i below))
+      ];
+    }
+
+-- one place more of a list
+pub fold-more : {A B : Type 0} (f : B → A → B) (b : B) (xs : List A) (j : ℕ) (d : A) → j < length xs → fold f b (take (j + 1) xs) ≡ f (fold f b (take j xs)) (get_or xs j d)
+fold-more f b xs j d inside =
+    ap (fold f b) (take_more xs j d inside) ∙ fold-append f b (take j xs) (get_or xs j d ∷ [])
