@@ -5,7 +5,7 @@ use Rattle.std.specs.Option.{option_map, option_map_or}
 use Rattle.std.specs.Prelude.{Option, Some, None, slice_get}
 use Rattle.std.proofs.lemmas.Option.{none-some, slice_get-map}
 use Rattle.cpl_comp.proofs.HeldFacts.{from-some}
-use Rattle.cpl_block.specs.Frames.{IsOwn, cell_at, step_to}
+use Rattle.cpl_block.specs.Frames.{cell_at}
 use Rattle.cpl_block.specs.Laws.{IsFraming}
 use Rattle.cpl_comp.specs.Readings.{Reading, argument_value, entry_answer, rule_value}
 use Rattle.cpl_comp.specs.declared.component.Rule.{Rule}
@@ -16,7 +16,7 @@ use Rattle.cpl_formula.specs.declared.arguments.Argument.{Argument}
 use Rattle.cpl_formula.specs.declared.formula.Parsed.{Parsed}
 use Rattle.cpl_sweep.specs.Places.{inputs_at, value_at}
 use Rattle.cpl_sweep.specs.declared.place.Place.{Place}
-use Rattle.cpl_rule.specs.Assigned.{IsAssigned, IsRuleOn, IsScene, answers_of}
+use Rattle.cpl_rule.specs.Assigned.{IsAssigned, IsRuleOn, answers_of}
 use Rattle.cpl_rule.specs.Inputs.{AreShown, HoldReading, IsHaloed, arguments_of, places_of_rule}
 use Rattle.cpl_rule.specs.Moments.{IsAt}
 use Rattle.cpl_rule.specs.Swept.{IsSwept}

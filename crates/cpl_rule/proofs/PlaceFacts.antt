@@ -1,5 +1,5 @@
 -- Where inputs come from lies within the fields.
-use Rattle.std.proofs.Common.{◌≡◌, ℕ, ◌+◌, ◌<◌, ◌≤◌, Bool, true, false, true≢false, List, [], ◌∷◌, ℤ, pos, map, length, refl, sym, ap, subst, ◌∙◌, arith}
+use Rattle.std.proofs.Common.{◌≡◌, ℕ, ◌+◌, ◌<◌, ◌≤◌, List, [], ◌∷◌, ℤ, pos, map, length, refl, arith}
 use Rattle.std.proofs.lemmas.List.Elements.{All-cons, All-head, All-nil, All-tail}
 use Rattle.std.specs.List.{All}
 use Rattle.std.specs.Prelude.{◌*ℤ◌}
@@ -13,7 +13,6 @@ use Rattle.cpl_formula.specs.declared.arguments.Argument.TheVariants.{Number, Ce
 use Rattle.cpl_formula.specs.declared.formula.ReadName.{ReadName}
 use Rattle.cpl_formula.specs.declared.formula.ReadName.TheVariants as names
 use Rattle.cpl_sweep.specs.Places.{IsPlace, field_at}
-use Rattle.cpl_sweep.specs.declared.place.Place.{Place}
 use Rattle.cpl_comp.specs.Readings.{moment_parts, one_if, whole}
 use Rattle.cpl_comp.specs.Timing.{day_second, days_after, is_alarm_at}
 use Rattle.cpl_rule.specs.Moments.{bare_reading, timing_of}

@@ -1,27 +1,25 @@
 -- What the places of a rule's inputs show at the cells of a block.
-use Rattle.std.proofs.Common.{◌≡◌, ℕ, ◌+◌, ◌<◌, ◌≤◌, Bool, true, false, List, [], ◌∷◌, ℤ, pos, map, length, refl, sym, ap, subst, ◌∙◌, inl, inr, arith}
+use Rattle.std.proofs.Common.{◌≡◌, ℕ, ◌+◌, ◌<◌, true, false, List, [], ◌∷◌, ℤ, pos, map, refl, sym, ap, ◌∙◌, inl, inr}
 use Rattle.std.proofs.lemmas.Bool.{and_parts, cases_Bool}
 use Rattle.std.proofs.lemmas.Bool.Decides.{Decides-int_eq}
 use Rattle.std.proofs.lemmas.List.Elements.{All-head, All-tail}
 use Rattle.std.specs.List.{All}
-use Rattle.cpl_block.specs.Frames.{IsOwn, IsReached, IsRinged, IsSpot, cell_at, first_of, is_own, place_at, stands_for, step_to, value_at}
+use Rattle.cpl_block.specs.Frames.{IsOwn, IsReached, IsRinged, IsSpot, cell_at, first_of, is_own, place_at, step_to, value_at}
 use Rattle.cpl_block.specs.Laws.{IsFraming}
 use Rattle.cpl_block.specs.declared.frame.Frame.{Frame}
 use Rattle.cpl_comp.specs.Halos.{is_here}
-use Rattle.cpl_comp.specs.Readings.{Reading, argument_value, name_value, read_value, whole}
-use Rattle.cpl_comp.specs.declared.component.Rule.{Rule}
+use Rattle.cpl_comp.specs.Readings.{Reading, name_value, whole}
 use Rattle.cpl_formula.specs.declared.arguments.Argument.{Argument}
 use Rattle.cpl_formula.specs.declared.arguments.Argument.TheVariants.{Number, Cell}
-use Rattle.cpl_formula.specs.declared.formula.Read.{Read}
 use Rattle.cpl_formula.specs.declared.formula.ReadName.{ReadName}
 use Rattle.cpl_formula.specs.declared.formula.ReadName.TheVariants as names
 use Rattle.cpl_comp.specs.Timing.{Timing}
 use Rattle.cpl_comp.specs.Turns.{is_among}
 use Rattle.cpl_grid.specs.Grid.{column_of, neighbour_of, row_of}
 use Rattle.cpl_grid.specs.declared.grid.Grid.{Grid}
-use Rattle.cpl_sweep.specs.Places.{field_at, input_at, inputs_at}
-use Rattle.cpl_rule.specs.Inputs.{AreShown, HaveNumbers, HoldReading, IsArgumentNear, IsHaloed, IsReadNear, IsShown, arguments_of, place_of, place_of_name, places_of_rule}
-use Rattle.cpl_rule.specs.Moments.{IsAt, bare_reading, number_of}
+use Rattle.cpl_sweep.specs.Places.{field_at, input_at}
+use Rattle.cpl_rule.specs.Inputs.{AreShown, HoldReading, IsArgumentNear, IsHaloed, IsShown, place_of, place_of_name}
+use Rattle.cpl_rule.specs.Moments.{IsAt, number_of}
 use Rattle.cpl_rule.specs.declared.moment.Moment.{Moment}
 
 -- ---- cells of the block

@@ -1,11 +1,11 @@
 -- What a sweep over a block leaves.
-use Rattle.std.proofs.Common.{◌≡◌, ℕ, ◌+◌, ◌-◌, ◌<◌, ◌≤◌, List, [], ◌∷◌, ◌++◌, ℤ, pos, map, set, length, take, drop, get_or, refl, sym, ap, subst, ◌∙◌, arith}
+use Rattle.std.proofs.Common.{◌≡◌, ℕ, ◌+◌, ◌<◌, ◌≤◌, List, [], ◌∷◌, ◌++◌, ℤ, pos, map, set, length, take, drop, get_or, sym, ap, subst, ◌∙◌, arith}
 use Rattle.std.specs.List.{All, range_with_len}
 use Rattle.std.proofs.lemmas.List.{get_or-append-add, get_or_append_left, length-append, length-drop, length-take-le, take_more_set}
 use Rattle.std.proofs.lemmas.List.Elements.{All-append, All-cons, All-drop, All-nil, All-take}
 use Rattle.std.proofs.lemmas.List.FromFn.{get_or-map-range_with_len, length-map-range_with_len, map-range_with_len_more}
 use Rattle.cpl_base.specs.Numbers.{IsValue}
-use Rattle.cpl_block.specs.Frames.{IsOwn, IsSpot, cell_at, first_of, place_at, places_in, span_of, stands_for, step_to, value_at}
+use Rattle.cpl_block.specs.Frames.{IsOwn, IsSpot, cell_at, first_of, places_in, span_of, stands_for, step_to, value_at}
 use Rattle.cpl_block.specs.Laws.{IsFraming}
 use Rattle.cpl_block.specs.declared.frame.Frame.{Frame}
 use Rattle.cpl_rule.specs.Swept.{IsSwept}

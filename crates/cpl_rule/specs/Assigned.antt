@@ -1,5 +1,5 @@
 -- What a rule leaves in a field of a block.
-use Rattle.std.specs.Prelude.{◌≡◌, ℕ, ◌*◌, ◌≤◌, ℤ, pos, List, length, map, Some, IsTrue}
+use Rattle.std.specs.Prelude.{◌≡◌, ℕ, ◌*◌, ◌≤◌, ℤ, List, length, map, Some, IsTrue}
 use Rattle.std.specs.List.{All}
 use Rattle.cpl_base.specs.Numbers.{IsValue}
 use Rattle.cpl_block.specs.Frames.{IsFrame, IsOwn, places_in}
@@ -11,7 +11,7 @@ use Rattle.cpl_formula.specs.Tree.{is_over, value_of}
 use Rattle.cpl_formula.specs.declared.arguments.Argument.{Argument}
 use Rattle.cpl_formula.specs.declared.formula.Parsed.{Parsed}
 use Rattle.cpl_sweep.specs.Rows.{scratch_rows}
-use Rattle.cpl_rule.specs.Inputs.{AreFields, HoldReading, IsArgumentNear, IsHaloed, arguments_of}
+use Rattle.cpl_rule.specs.Inputs.{HoldReading, IsArgumentNear, IsHaloed, arguments_of}
 use Rattle.cpl_rule.specs.Moments.{IsAt, IsMoment}
 use Rattle.cpl_rule.specs.declared.room.Room.{Room}
 use Rattle.cpl_rule.specs.declared.scene.Scene.{Scene}

@@ -1,5 +1,5 @@
 -- The definitions of rules over a block, evaluated on examples.
-use Rattle.std.specs.Prelude.{◌≡◌, ℕ, ℤ, pos, neg_ℤ, List, [], ◌∷◌}
+use Rattle.std.specs.Prelude.{◌≡◌, pos, neg_ℤ, [], ◌∷◌}
 use Rattle.cpl_block.specs.Examples.{corner, numbers}
 use Rattle.cpl_block.specs.Frames.{step_to}
 use Rattle.cpl_comp.specs.declared.component.Rule.TheVariants.{Native}
@@ -8,10 +8,8 @@ use Rattle.cpl_formula.specs.Reads.{read_at}
 use Rattle.cpl_formula.specs.declared.arguments.Argument.TheVariants.{Number, Cell}
 use Rattle.cpl_formula.specs.declared.formula.ReadName.TheVariants as names
 use Rattle.cpl_sweep.specs.Places.{inputs_at}
-use Rattle.cpl_sweep.specs.declared.place.Place.{Place}
 use Rattle.cpl_sweep.specs.declared.place.Place.TheVariants.{Same, From}
 use Rattle.cpl_rule.specs.Inputs.{arguments_of, place_of, places_of_rule}
-use Rattle.cpl_rule.specs.Moments.{is_number}
 use Rattle.cpl_rule.specs.declared.moment.Moment.{Moment}
 
 -- Where what is read comes from on a block of two cells with a ring, for a component of four fields: a field below and to

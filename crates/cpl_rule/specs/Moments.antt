@@ -1,5 +1,5 @@
 -- The moment of an operation, and the numbers that rules read of it.
-use Rattle.std.specs.Prelude.{◌≡◌, ℕ, ℤ, pos, ◌+ℤ◌, ◌≤ℤ◌, Bool, true, false, [], List}
+use Rattle.std.specs.Prelude.{◌≡◌, ℤ, pos, ◌+ℤ◌, ◌≤ℤ◌, Bool, true, false, []}
 use Rattle.std.specs.List.{All}
 use Rattle.cpl_calendar.specs.Calendar.{InTime}
 use Rattle.cpl_clock.specs.Alarm.{IsRegular}

@@ -6,6 +6,7 @@ mod calling;
 mod examples;
 mod inputs;
 mod moment;
+mod numbers;
 mod room;
 mod scene;
 
@@ -13,5 +14,6 @@ pub use assigning::assign;
 pub use examples::rule_examples;
 pub use inputs::{input_count, place_inputs};
 pub use moment::{Moment, Times, moment_at};
+pub use numbers::write_numbers;
 pub use room::{Room, room_of};
 pub use scene::Scene;

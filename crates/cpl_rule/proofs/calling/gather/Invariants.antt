@@ -1,4 +1,4 @@
-use Rattle.std.proofs.Common.{◌≡◌, length, take, map}
+use Rattle.std.proofs.Common.{◌≡◌, take, map}
 use Rattle.std.specs.List.{All}
 use Rattle.cpl_base.specs.Numbers.{IsValue}
 use Rattle.cpl_sweep.specs.Places.{input_at}

@@ -1,4 +1,4 @@
-use Rattle.std.proofs.Common.{◌≡◌, FitsSigned, w64, to_z-of_z, arith, rules, ◌+ℤ◌}
+use Rattle.std.proofs.Common.{FitsSigned, w64, to_z-of_z, arith, ◌+ℤ◌}
 use Rattle.std.proofs.lemmas.Int.{ints}
 use Rattle.cpl_calendar.proofs.Months.{all_days_le}
 use Rattle.cpl_rule.proofs.moment.parts_after.Goals as goal
