@@ -1,9 +1,9 @@
 -- Averages of what is kept for a block.
-use Rattle.std.proofs.Common.{◌≡◌, ◌≢◌, ℕ, zero, suc, ◌+◌, ◌-◌, ◌<◌, ◌≤◌, List, [], ◌∷◌, ℤ, pos, get_or, length, map, refl, sym, ap, subst, ◌∙◌, arith}
+use Rattle.std.proofs.Common.{◌≡◌, ◌≢◌, ℕ, ◌-◌, ◌<◌, List, [], ◌∷◌, ℤ, pos, get_or, length, map, refl, sym, ◌∙◌, arith}
 use Rattle.std.proofs.lemmas.List.{get_or-map, length-map, same_lists}
 use Rattle.std.proofs.lemmas.List.FromFn.{get_or-map-range_with_len, length-map-range_with_len}
 use Rattle.std.proofs.lemmas.List.Elements.{All-map}
-use Rattle.std.specs.List.{All, range_with_len}
+use Rattle.std.specs.List.{All}
 use Rattle.cpl_base.specs.Numbers.{IsValue}
 use Rattle.cpl_comp.proofs.HeldFacts.{get_or-within}
 use Rattle.std.specs.Prelude.{◌+ℤ◌, slice_index}
@@ -11,11 +11,11 @@ use Rattle.cpl_base.specs.Rounding.{near_of}
 use Rattle.cpl_block.specs.Frames.{IsOwn, home_of, value_at, values_in}
 use Rattle.cpl_block.specs.Laws.{IsFraming}
 use Rattle.cpl_block.specs.declared.frame.Frame.{Frame}
-use Rattle.cpl_comp.specs.Worlds.{cell_value, over_cells}
+use Rattle.cpl_comp.specs.Worlds.{cell_value}
 use Rattle.cpl_comp.specs.Writes.{mean_values}
 use Rattle.cpl_grid.specs.Owners.{Layout}
 use Rattle.cpl_grid.specs.Parts.{cells_of_part}
-use Rattle.cpl_mediator.specs.Averages.{RunningSums, StandsFor, average_at, average_of, number_at, sum_at}
+use Rattle.cpl_mediator.specs.Averages.{RunningSums, average_at, average_of, sum_at}
 use Rattle.cpl_phase.specs.Keeping.{StandsForBlock, kept_in, values_of_block}
 use Rattle.cpl_phase.proofs.WrittenFacts.{own-over}
 

@@ -1,15 +1,14 @@
 -- What is kept, as it is forgotten field by field.
-use Rattle.std.proofs.Common.{◌≡◌, ◌≢◌, ℕ, ◌+◌, ◌<◌, ◌≤◌, List, [], ◌∷◌, ◌++◌, ℤ, fold, get_or, length, refl, set, sym, ap, subst, take, ◌∙◌, inl, inr, arith}
+use Rattle.std.proofs.Common.{◌≡◌, ℕ, ◌+◌, ◌<◌, List, [], ◌∷◌, ℤ, fold, get_or, length, set, sym, ap, subst, take, ◌∙◌, inl, inr, arith}
 use Rattle.std.proofs.lemmas.Bool.{cases_eq}
-use Rattle.std.proofs.lemmas.List.{get_or-set_other, get_or-set_same, length-set, take_more}
+use Rattle.std.proofs.lemmas.List.{get_or-set_other, get_or-set_same, take_more}
 use Rattle.std.proofs.lemmas.List.Sums.{fold-append}
-use Rattle.std.specs.Prelude.{slice_index}
 use Rattle.cpl_block.specs.declared.frame.Frame.{Frame}
 use Rattle.cpl_comp.proofs.ChangeFacts.{changed-here, changed-other, length-changed}
 use Rattle.cpl_comp.specs.Worlds.{FieldWorld, changed, field_at as world_at, no_field}
 use Rattle.cpl_comp.specs.Writes.{emptied}
 use Rattle.cpl_mediator.specs.Averages.{RunningSums, StandsFor, no_sums}
-use Rattle.cpl_phase.specs.Keeping.{StandsForBlock, kept_in}
+use Rattle.cpl_phase.specs.Keeping.{StandsForBlock}
 use Rattle.cpl_phase.specs.Kept.{StandForKept, accum_at}
 
 -- nothing is kept for one field any more

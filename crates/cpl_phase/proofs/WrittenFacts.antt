@@ -1,5 +1,5 @@
 -- What assignments and merges leave, as writes.
-use Rattle.std.proofs.Common.{◌≡◌, ℕ, zero, suc, ◌+◌, ◌<◌, ◌≤◌, List, [], ◌∷◌, ℤ, get_or, length, map, refl, sym, ap, subst, ◌∙◌, arith}
+use Rattle.std.proofs.Common.{◌≡◌, ℕ, suc, ◌<◌, ◌≤◌, List, [], ◌∷◌, ℤ, get_or, length, map, refl, sym, ap, subst, ◌∙◌, arith}
 use Rattle.std.proofs.lemmas.List.Elements.{All-head, All-tail}
 use Rattle.std.specs.List.{All}
 use Rattle.cpl_block.specs.Frames.{IsOwn, IsSpot, cell_at, place_at, stands_for}
@@ -8,7 +8,7 @@ use Rattle.cpl_block.specs.declared.frame.Frame.{Frame}
 use Rattle.cpl_comp.proofs.CellFacts.{over_cells-at}
 use Rattle.cpl_comp.specs.Readings.{Reading, rule_value}
 use Rattle.cpl_comp.specs.Worlds.{cell_value, over_cells}
-use Rattle.cpl_comp.specs.Writes.{Write, merge_value, merge_write, set_write}
+use Rattle.cpl_comp.specs.Writes.{merge_value, merge_write, set_write}
 use Rattle.cpl_comp.specs.Components.{IsMerge, IsTerm}
 use Rattle.cpl_comp.specs.declared.component.MergeRow.{MergeRow}
 use Rattle.cpl_comp.specs.declared.component.SetRow.{SetRow}

@@ -1,5 +1,5 @@
 -- Fields with the values of the assignments and the merges of a phase.
-use Rattle.std.specs.Prelude.{◌≡◌, ℕ, ◌<◌, ℤ, List, length, slice_index_or}
+use Rattle.std.specs.Prelude.{ℕ, ◌<◌, ℤ, List, length, slice_index_or}
 use Rattle.std.specs.List.{All}
 use Rattle.cpl_block.specs.declared.frame.Frame.{Frame}
 use Rattle.cpl_comp.specs.declared.component.MergeRow.{MergeRow}

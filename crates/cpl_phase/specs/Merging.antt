@@ -1,6 +1,5 @@
 -- The values of merges over a block.
-use Rattle.std.specs.Prelude.{ℕ, ◌+◌, ◌<◌, ℤ, pos, List, length, map}
-use Rattle.std.specs.List.{All}
+use Rattle.std.specs.Prelude.{ℕ, ◌+◌, ℤ, pos, List, map}
 use Rattle.cpl_block.specs.Frames.{first_of, value_at}
 use Rattle.cpl_block.specs.declared.frame.Frame.{Frame}
 use Rattle.cpl_mediator.specs.Merges.{merge_of}

@@ -1,5 +1,5 @@
 -- The cells of a block and their places, as lists.
-use Rattle.std.specs.Prelude.{◌≡◌, ℕ, ◌<◌, List, [], ◌∷◌, ◌++◌, map}
+use Rattle.std.specs.Prelude.{◌≡◌, ℕ, ◌<◌, List, map}
 use Rattle.std.specs.List.{All}
 use Rattle.cpl_block.specs.Frames.{home_of, places_in, stands_for}
 use Rattle.cpl_block.specs.declared.frame.Frame.{Frame}

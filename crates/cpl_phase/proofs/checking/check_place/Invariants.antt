@@ -1,4 +1,4 @@
-use Rattle.std.proofs.Common.{◌≡◌, drop, length}
+use Rattle.std.proofs.Common.{◌≡◌, drop}
 use Rattle.std.specs.List.{enumerate_from, flat_map}
 use Rattle.cpl_block.specs.Frames.{value_at}
 use Rattle.cpl_sweep.specs.Places.{field_at}

@@ -1,4 +1,4 @@
-use Rattle.std.proofs.Common.{◌≡◌, drop, length}
+use Rattle.std.proofs.Common.{◌≡◌, drop}
 use Rattle.std.specs.List.{flat_map}
 use Rattle.cpl_block.specs.Frames.{home_of}
 use Rattle.cpl_phase.specs.Checks.{block_faults, least_fault, noted_fault, place_faults}

@@ -1,6 +1,5 @@
-use Rattle.std.proofs.Common.{◌≡◌, ◌∙◌, ◌<◌, ◌≤◌, arith, length}
+use Rattle.std.proofs.Common.{◌∙◌, ◌<◌, arith, length}
 use Rattle.cpl_entry.specs.Books.{entries_of}
-use Rattle.cpl_rule.specs.Assigned.{IsAsRoomy}
 use Rattle.cpl_phase.proofs.AssignmentFacts.{assigned-more}
 use Rattle.cpl_phase.proofs.RefreshedFacts.{on-block-set}
 use Rattle.cpl_phase.proofs.filling.assign_all.Goals as goal

@@ -1,4 +1,4 @@
-use Rattle.std.proofs.Common.{◌≡◌, ◌∙◌, ◌≤◌, length, ap, arith, map, sym, take}
+use Rattle.std.proofs.Common.{◌∙◌, ◌≤◌, length, ap, arith, map, sym}
 use Rattle.std.proofs.lemmas.List.{take_all}
 use Rattle.cpl_block.specs.Frames.{value_at}
 use Rattle.cpl_phase.proofs.KeepingFacts.{at-homes}

@@ -1,4 +1,4 @@
-use Rattle.std.proofs.Common.{◌∙◌, ◌+◌, ◌-◌, ◌≡◌, arith, ap, length, map, drop, take, ℕ, ℤ}
+use Rattle.std.proofs.Common.{◌∙◌, ◌+◌, ◌-◌, ◌≡◌, arith, length, map, drop, take}
 use Rattle.std.specs.List.{range_with_len}
 use Rattle.cpl_rule.proofs.SweptFacts.{swept-block}
 use Rattle.cpl_phase.specs.Merging.{merge_at, merge_step}

@@ -1,4 +1,4 @@
-use Rattle.std.proofs.Common.{◌≡◌, length, map, take}
+use Rattle.std.proofs.Common.{◌≡◌, map, take}
 use Rattle.std.specs.List.{All}
 use Rattle.cpl_mediator.specs.Merges.{IsTerm}
 use Rattle.cpl_phase.specs.Merging.{factors_at}

@@ -1,4 +1,4 @@
-use Rattle.std.proofs.Common.{◌≡◌, ◌+◌, length, map, take}
+use Rattle.std.proofs.Common.{◌≡◌, ◌+◌, map, take}
 use Rattle.std.specs.List.{All, range_with_len}
 use Rattle.cpl_base.specs.Numbers.{IsValue}
 use Rattle.cpl_phase.specs.Merging.{merge_at}

@@ -1,4 +1,4 @@
-use Rattle.std.proofs.Common.{◌≡◌, drop, length, map}
+use Rattle.std.proofs.Common.{◌≡◌, drop, map}
 use Rattle.cpl_phase.specs.Puts.{AreBack, all_put}
 use Rattle.cpl_phase.proofs.putting.put_sets.Given as goal
 

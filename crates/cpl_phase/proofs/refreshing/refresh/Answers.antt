@@ -1,4 +1,4 @@
-use Rattle.std.proofs.Common.{◌≡◌, ◌∙◌, ◌<◌, List, [], ℤ, ap, length, arith, refl, subst, sym, get_or}
+use Rattle.std.proofs.Common.{◌≡◌, ◌∙◌, ◌<◌, List, [], ℤ, length, arith, refl, subst, get_or}
 use Rattle.std.proofs.lemmas.List.{get_or_default}
 use Rattle.cpl_block.specs.Frames.{places_in}
 use Rattle.cpl_block.specs.Rings.{IsRefilled}

@@ -1,4 +1,4 @@
-use Rattle.std.proofs.Common.{◌++◌, arith, subst, List, ℕ, sym}
+use Rattle.std.proofs.Common.{◌++◌, subst, List, ℕ, sym}
 use Rattle.std.specs.List.{range_with_len}
 use Rattle.cpl_grid.specs.Parts.{part_cell}
 use Rattle.cpl_phase.specs.Sites.{AreSitesOf}

@@ -1,10 +1,9 @@
-use Rattle.std.proofs.Common.{◌≡◌, ◌∙◌, ◌+◌, ◌++◌, ◌<◌, ◌≤◌, ℕ, List, ℤ, ap, arith, length, map, pos, subst, sym}
+use Rattle.std.proofs.Common.{◌≡◌, ◌∙◌, ◌+◌, ◌<◌, ◌≤◌, ℕ, List, ℤ, ap, arith, length, map, pos, subst, sym}
 use Rattle.std.proofs.lemmas.List.Elements.{All-map}
 use Rattle.std.proofs.lemmas.List.Sums.{fold-append}
 use Rattle.std.proofs.lemmas.Simd.{map-map}
 use Rattle.std.specs.List.{All}
 use Rattle.cpl_block.specs.Frames.{IsOwn, places_in}
-use Rattle.cpl_comp.specs.Components.{IsMerge}
 use Rattle.cpl_comp.specs.Readings.{whole}
 use Rattle.cpl_comp.specs.Worlds.{FieldWorld}
 use Rattle.cpl_comp.specs.Writes.{Write, all_written, merge_write, set_write, written}

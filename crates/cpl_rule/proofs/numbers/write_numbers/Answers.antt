@@ -1,4 +1,4 @@
-use Rattle.std.proofs.Common.{◌≡◌, ◌∙◌, ◌<◌, ◌≤◌, ℕ, ℤ, ap, arith, length, pos, rules, subst, sym, w64}
+use Rattle.std.proofs.Common.{◌∙◌, ◌<◌, ℤ, ap, arith, length, pos, rules, subst, sym, w64}
 use Rattle.std.proofs.lemmas.Int.{to_z-of_z}
 use Rattle.cpl_base.specs.Numbers.{IsValue}
 use Rattle.cpl_comp.specs.Readings.{whole}
