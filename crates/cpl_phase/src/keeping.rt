@@ -15,10 +15,14 @@ use cpl_block::{Frame, frame_laws};
 use cpl_field::Field;
 use cpl_mediator::Accum;
 
-/// Keeps the values of a field at the cells of a block, one behind the other in `cells`. Takes no memory.
-///
-/// Source: this project's own.
-pub fn keep(frame: &Frame, sites: &Sites, field: &Field, cells: &mut [i64], accum: &mut Accum)
+/// Keeps the values of a field at the cells of a block, one behind the other in `cells`.
+pub(crate) fn keep(
+    frame: &Frame,
+    sites: &Sites,
+    field: &Field,
+    cells: &mut [i64],
+    accum: &mut Accum,
+)
     requires sites { AreSites frame.now sites.now }
     requires field { length field.now ≡ places_in frame.now }
     requires field_values { All IsValue field.now }
