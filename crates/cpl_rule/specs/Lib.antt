@@ -1,0 +1,6 @@
+pub mod Assigned
+pub mod Examples
+pub mod Inputs
+pub mod Moments
+pub mod Numbered
+pub mod Swept
