@@ -20,6 +20,10 @@ use Rattle.cpl_rule.specs.declared.scene.Scene.{Scene}
 abbrev pub answers_of : List NativeEntry → EntryAnswers
 answers_of book = map (λ entry inputs. value_of inputs entry.formula) book
 
+-- an entry of a book takes so many inputs
+abbrev pub TakesInputs : List NativeEntry → ℕ → ℕ → Type 0
+TakesInputs book entry count = inputs_at book entry ≡ Some count
+
 -- A block, the fields of a component on it, and a moment.
 pub record IsScene (scene : Scene) : Type 0 where
   pub frame : IsFrame scene.frame
@@ -31,7 +35,7 @@ pub record IsScene (scene : Scene) : Type 0 where
 pub record IsRuleOn (scene : Scene) (book : List NativeEntry) (rule : Rule) : Type 0 where
   pub near : All (IsArgumentNear scene.frame scene.fields (length scene.moment.times.alarms.now)) (arguments_of rule)
   pub formula : (parsed : Parsed) → rule ≡ Plain parsed → IsTrue (is_over (length parsed.reads) parsed.tree)
-  pub call : (entry : ℕ) (arguments : List Argument) → rule ≡ Native entry arguments → inputs_at book entry ≡ Some (length arguments)
+  pub call : (entry : ℕ) (arguments : List Argument) → rule ≡ Native entry arguments → TakesInputs book entry (length arguments)
 
 -- There is room for a rule's inputs, and for the strips in which its formula is worked out.
 pub record HasRoom (room : Room) (rule : Rule) : Type 0 where

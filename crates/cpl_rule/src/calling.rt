@@ -1,14 +1,13 @@
 //! The answers of a native entry over a block.
 
-ghost use Rattle.std.specs.Prelude.{◌≡◌, ◌+◌, All, Some, length, map};
+ghost use Rattle.std.specs.Prelude.{◌≡◌, ◌+◌, All, length, map};
 ghost use Rattle.std.specs.List.{range_with_len};
 ghost use Rattle.cpl_base.specs.Numbers.{IsValue};
 ghost use Rattle.cpl_block.specs.Frames.{IsFrame, places_in, span_of};
 ghost use Rattle.cpl_comp.specs.Readings.{entry_answer};
 ghost use Rattle.cpl_entry.specs.Books.{entries_of};
-ghost use Rattle.cpl_entry.specs.Entries.{inputs_at as inputs_of_entry};
 ghost use Rattle.cpl_sweep.specs.Places.{IsPlace, input_at, inputs_at};
-ghost use Rattle.cpl_rule.specs.Assigned.{answers_of};
+ghost use Rattle.cpl_rule.specs.Assigned.{TakesInputs, answers_of};
 ghost use Rattle.cpl_rule.specs.Swept.{IsSwept};
 
 use cpl_block::{Frame, frame_laws};
@@ -27,7 +26,7 @@ pub(crate) fn call_block(
     out: &mut [i64],
 )
     requires frame { IsFrame frame.now }
-    requires entry { inputs_of_entry (entries_of book.now) entry ≡ Some (length places.now) }
+    requires entry { TakesInputs (entries_of book.now) entry (length places.now) }
     requires places { All (IsPlace fields.now (span_of frame.now)) places.now }
     requires fields { All (All IsValue) fields.now }
     requires inputs { length inputs.old ≡ length places.now }
@@ -57,7 +56,7 @@ fn call_run(
     inputs: &mut [i64],
     these: &mut [i64],
 )
-    requires entry { inputs_of_entry (entries_of book.now) entry ≡ Some (length places.now) }
+    requires entry { TakesInputs (entries_of book.now) entry (length places.now) }
     requires places { All (IsPlace fields.now (length these.old)) places.now }
     requires fields { All (All IsValue) fields.now }
     requires inputs { length inputs.old ≡ length places.now }
@@ -72,7 +71,7 @@ fn call_run(
 
 /// The answer of an entry.
 fn call(book: &EntryBook, entry: u16, inputs: &[i64]) -> i64
-    requires entry { inputs_of_entry (entries_of book.now) entry ≡ Some (length inputs.now) }
+    requires entry { TakesInputs (entries_of book.now) entry (length inputs.now) }
     requires inputs { All IsValue inputs.now }
     ensures value { result ≡ entry_answer (answers_of (entries_of book.now)) entry inputs.now }
     ensures within { IsValue result }
