@@ -15,7 +15,7 @@ use Rattle.cpl_rule.specs.Inputs.{IsArgumentNear, IsReadNear, arguments_of, plac
 use Rattle.cpl_rule.specs.declared.moment.Moment.{Moment}
 
 -- what holds of arguments that are reads holds of the reads
-of-cells : (P : Argument → Type 0) (reads : List Read) → All P (map Cell reads) → All (λ read. P (Cell read)) reads
+pub of-cells : (P : Argument → Type 0) (reads : List Read) → All P (map Cell reads) → All (λ read. P (Cell read)) reads
 of-cells P [] each = All-nil (λ read. P (Cell read))
 of-cells P (read ∷ more) each =
     All-cons (λ read. P (Cell read)) read more (All-head P (Cell read) (map Cell more) each) (of-cells P more (All-tail P (Cell read) (map Cell more) each))

@@ -1,4 +1,6 @@
 mod AssignedFacts
+pub mod DemandFacts
+pub mod DemandLaws
 mod InputsFacts
 mod NumberedFacts
 mod PlaceFacts

@@ -1,4 +1,5 @@
 pub mod Assigned
+pub mod Demands
 pub mod Examples
 pub mod Inputs
 pub mod Moments

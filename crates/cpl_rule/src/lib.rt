@@ -3,6 +3,7 @@
 
 mod assigning;
 mod calling;
+mod demand;
 mod examples;
 mod inputs;
 mod moment;
@@ -11,6 +12,7 @@ mod room;
 mod scene;
 
 pub use assigning::assign;
+pub use demand::{Demand, demand_of};
 pub use examples::rule_examples;
 pub use inputs::{input_count, place_inputs};
 pub use moment::{Moment, Times, moment_at};
