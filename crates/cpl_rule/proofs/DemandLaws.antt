@@ -1,9 +1,9 @@
 -- What the demand of a component's rules gives: its rules can be carried out over a block with such a ring, in room of such
 -- sizes, and what they read beside the cell is of the halo.
-use Rattle.std.proofs.Common.{◌≡◌, ℕ, zero, suc, ◌+◌, ◌-◌, ◌*◌, ◌^◌, ◌<◌, ◌≤◌, Bool, true, false, not, ◌&&◌, ◌||◌, ◌==◌, List, [], ◌∷◌, length, map, filter, get_or, Option, Some, None, min, refl, sym, ap, subst, ◌∙◌, arith, inl, inr}
+use Rattle.std.proofs.Common.{◌≡◌, ℕ, zero, suc, ◌+◌, ◌-◌, ◌*◌, ◌^◌, ◌<◌, ◌≤◌, Bool, true, false, ◌||◌, ◌==◌, List, [], ◌∷◌, length, map, filter, get_or, Option, Some, min, refl, sym, ap, subst, ◌∙◌, arith, inl, inr}
 use Rattle.std.proofs.Math.Nat.{min-eq_left, min-eq_right}
-use Rattle.std.proofs.lemmas.Bool.{and_parts, cases_lt, eq-eqb, eqb-true}
-use Rattle.std.proofs.lemmas.List.Elements.{All-filter, All-from_get_or, All-get_or, All-map}
+use Rattle.std.proofs.lemmas.Bool.{cases_lt, eq-eqb, eqb-true}
+use Rattle.std.proofs.lemmas.List.Elements.{All-filter, All-from_get_or, All-map}
 use Rattle.std.proofs.lemmas.List.Folds.{list_any_at}
 use Rattle.std.proofs.lemmas.List.FromFn.{get_or-range_with_len, length-range_with_len}
 use Rattle.std.proofs.lemmas.Map.Views.{any-filter_same}
@@ -11,7 +11,7 @@ use Rattle.std.specs.List.{All, list_any, range_with_len, slice_get}
 use Rattle.std.specs.Option.{ForSome, option_map}
 use Rattle.std.specs.Prelude.{slice_index, pos}
 use Rattle.cpl_comp.specs.Components.{IsComponent, IsField, IsRule, IsStart, Limits, roles_of}
-use Rattle.cpl_comp.specs.Halos.{halo_of, has_read, is_cell_of, is_field_at, is_here, is_read_beside}
+use Rattle.cpl_comp.specs.Halos.{halo_of, has_read, is_cell_of, is_here, is_read_beside}
 use Rattle.cpl_comp.specs.Turns.{is_among}
 use Rattle.cpl_comp.specs.declared.component.Comp.{Comp}
 use Rattle.cpl_comp.specs.declared.component.Field.{Field}
@@ -23,9 +23,7 @@ use Rattle.cpl_formula.specs.Arguments.{IsArgument}
 use Rattle.cpl_formula.specs.Reads.{IsRead, read_at}
 use Rattle.cpl_formula.specs.declared.arguments.Argument.{Argument}
 use Rattle.cpl_formula.specs.declared.arguments.Argument.TheVariants.{Number, Cell}
-use Rattle.cpl_formula.specs.declared.formula.Parsed.{Parsed}
 use Rattle.cpl_formula.specs.declared.formula.Read.{Read}
-use Rattle.cpl_formula.specs.declared.formula.ReadName.{ReadName}
 use Rattle.cpl_formula.specs.declared.formula.ReadName.TheVariants as names
 use Rattle.cpl_block.specs.declared.frame.Frame.{Frame}
 use Rattle.cpl_sweep.specs.Rows.{scratch_rows}
@@ -106,9 +104,9 @@ rule-on limits scene book demand (Native place given) rx ry alarms inputs is cov
 
 strips-below : (rows strips : ℕ) → strips < 2 ^ 32 → min rows (2 ^ 64 - 1) ≤ strips → 128 * rows ≤ 128 * strips
 strips-below rows strips few least = elim (cases_lt rows (2 ^ 64 - 1)) [
-    | inl below ↦ let same : min rows (2 ^ 64 - 1) ≡ rows = min-eq_left (omega (arith, below)) in omega (arith, same, least)
-    | inr above ↦ let same : min rows (2 ^ 64 - 1) ≡ 2 ^ 64 - 1 = min-eq_right above in absurd (omega (arith, same, least, few))
-  ]
+  | inl below ↦ let same : min rows (2 ^ 64 - 1) ≡ rows = min-eq_left (omega (arith, below)) in omega (arith, same, least)
+  | inr above ↦ let same : min rows (2 ^ 64 - 1) ≡ 2 ^ 64 - 1 = min-eq_right above in absurd (omega (arith, same, least, few))
+]
 
 -- there is room for a rule that is covered by the demand from which the room's sizes come
 pub rule-roomy : (demand : Demand) (room : Room) (rule : Rule) → CanBeMet demand
@@ -127,7 +125,7 @@ among-filter : (test : ℕ → Bool) (n k : ℕ) → k < n → test k ≡ true �
 among-filter test n k below passes =
     let same : (j : ℕ) → (j == k) ≡ true → test j ≡ test k = λ j is. ap test (eqb-true j k is) in
     let there : list_any (λ j. j == k) (range_with_len 0 n) ≡ true =
-        list_any_at (λ j. j == k) (range_with_len 0 n) k 0 (rw (length-range_with_len 0 n) below) (ap (λ (j : ℕ). j == k) (get_or-range_with_len 0 n k 0 below) ∙ eq-eqb (0 + k) k (omega arith)) in
+    list_any_at (λ j. j == k) (range_with_len 0 n) k 0 (rw (length-range_with_len 0 n) below) (ap (λ (j : ℕ). j == k) (get_or-range_with_len 0 n k 0 below) ∙ eq-eqb (0 + k) k (omega arith)) in
     any-filter_same (λ j. j == k) test (test k) same (range_with_len 0 n) ∙ rw (passes, there) refl
 
 -- a field that a read names beside the cell is read there
@@ -180,16 +178,16 @@ rule-haloed limits count rules n d below is =
     let each = rule-arguments limits count rule is in
     λ m e there. haloed-argument (halo_of count rules).fields (get_or (arguments_of rule) m e)
     (λ read k same named beside.
-        let among : IsRead count limits.alarms read = subst (IsArgument count limits.alarms) same (each m e there) in
-        let has : has_read (is_read_beside k) rule ≡ true = rule-has rule (is_read_beside k) m e there read same (beside-read k read named beside) in
-        among-filter (λ field. list_any (has_read (is_read_beside field)) rules) count k (among.field k named) (list_any_at (has_read (is_read_beside k)) rules n d below has))
+    let among : IsRead count limits.alarms read = subst (IsArgument count limits.alarms) same (each m e there) in
+    let has : has_read (is_read_beside k) rule ≡ true = rule-has rule (is_read_beside k) m e there read same (beside-read k read named beside) in
+    among-filter (λ field. list_any (has_read (is_read_beside field)) rules) count k (among.field k named) (list_any_at (has_read (is_read_beside k)) rules n d below has))
 
 -- the fields of a halo are there
 pub halo-below : (count : ℕ) (rules : List Rule) → All (λ k. k < count) (halo_of count rules).fields
 unfolding halo_of
 halo-below count rules =
     let below : All (λ k. k < count) (range_with_len 0 count) = All-from_get_or (λ k. k < count) (range_with_len 0 count) 0
-        (λ i there. let inside : i < count = subst (λ n. i < n) (length-range_with_len 0 count) there in let at = get_or-range_with_len 0 count i 0 inside in omega (arith, at, inside)) in
+    (λ i there. let inside : i < count = subst (λ n. i < n) (length-range_with_len 0 count) there in let at = get_or-range_with_len 0 count i 0 inside in omega (arith, at, inside)) in
     All-filter (λ field. list_any (has_read (is_read_beside field)) rules) (λ k. k < count) (range_with_len 0 count) below
 
 -- ---- how wide a ring is

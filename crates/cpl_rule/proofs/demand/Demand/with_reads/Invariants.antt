@@ -4,4 +4,4 @@ use Rattle.cpl_rule.proofs.demand.Demand.with_reads.Given as goal
 
 -- what the members passed come to
 abbrev pub invariant-loop-k : goal.invariant-loop-k
-invariant-loop-k l = IsPassed (λ demand read. IsReadWithin demand read) l.self l.k l.reads l.demand
+invariant-loop-k l = IsPassed (λ demand read. IsReadWithin demand read) l.fn.self l.k l.reads l.demand
