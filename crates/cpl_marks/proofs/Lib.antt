@@ -1,0 +1,4 @@
+mod ListFacts
+pub mod FaultFacts
+mod PlanFacts
+pub mod StartFacts
