@@ -1,4 +1,4 @@
-mod ListFacts
+pub mod ListFacts
 pub mod FaultFacts
-mod PlanFacts
+pub mod PlanFacts
 pub mod StartFacts
