@@ -73,9 +73,3 @@ pub faults-same : (kind : Kind) (marks : CompMarks) (comp : Comp) (phase : Phase
     → mark_faults kind plan turn marks ≡ first_faults comp phase turn (is_connected connected) world
 faults-same kind marks comp phase turn connected world plan is same held =
     (λ i. mark_faults (sym same i) plan turn (sym held i)) ∙ first-same comp phase turn connected world plan is turn.first
-
--- what a step's end does
-pub step-same : (kind : Kind) (marks : CompMarks) (comp : Comp) (phase : Phase) (turn : Turn) (plan : List ℕ) → plan ≡ stamped_exports comp.kind comp phase → comp.kind ≡ kind
-    → record { clock = step_end kind turn; runs = marks.runs + 1; stamps = stamps_at (step_end kind turn) marks.stamps plan } ≡ marks_after_run comp phase (record turn { last = true }) marks
-step-same kind marks comp phase turn plan is same =
-    λ i. record { clock = step_end (sym same i) turn; runs = marks.runs + 1; stamps = stamps_at (step_end (sym same i) turn) marks.stamps (is i) }
