@@ -1,12 +1,12 @@
 -- What is found and stamped by a plan is what components say.
-use Rattle.std.proofs.Common.{◌≡◌, ℕ, ◌+◌, Bool, true, false, List, [], ◌++◌, get_or, refl, sym, ap, subst, ◌∙◌}
-use Rattle.std.specs.Prelude.{ℤ, pos, ◌&&◌, map, Option, Some, None, slice_get, if◌then◌else◌}
-use Rattle.std.specs.List.{enumerate_from, flat_map}
+use Rattle.std.proofs.Common.{◌≡◌, ℕ, ◌+◌, Bool, true, false, List, [], ◌++◌, get_or, refl, sym, ap, ◌∙◌}
+use Rattle.std.specs.Prelude.{ℤ, map, Option, Some, None, slice_get, if◌then◌else◌}
+use Rattle.std.specs.List.{enumerate_from}
 use Rattle.std.specs.Option.{option_map_or}
 use Rattle.std.proofs.Math.ListN.{get_or-map}
-use Rattle.cpl_comp.specs.Marks.{CompMarks, marks_after_run, marks_of, stamps_at}
+use Rattle.cpl_comp.specs.Marks.{CompMarks, marks_of}
 use Rattle.cpl_comp.specs.RunFaults.{Fault, clock_faults, first_faults, import_fault, import_faults, is_stamp, unless, wanted_stamp}
-use Rattle.cpl_comp.specs.Turns.{Turn, places_of, stamped_exports, step_end}
+use Rattle.cpl_comp.specs.Turns.{Turn, places_of}
 use Rattle.cpl_comp.specs.Worlds.{CompWorld, FieldWorld, no_field}
 use Rattle.cpl_comp.specs.declared.component.Comp.{Comp}
 use Rattle.cpl_comp.specs.declared.component.Field.{Field}

@@ -3,7 +3,7 @@ use Rattle.std.proofs.Common.{◌≡◌, ℕ, Bool, List, [], ◌∷◌, ◌++�
 use Rattle.std.proofs.lemmas.List.Folds.{list_any-append}
 use Rattle.std.specs.Prelude.{◌||◌, ◌==◌, map}
 use Rattle.std.specs.List.{list_any}
-use Rattle.cpl_comp.specs.Components.{rules_of, written_fields}
+use Rattle.cpl_comp.specs.Components.{written_fields}
 use Rattle.cpl_comp.specs.Halos.{has_read, is_field_at}
 use Rattle.cpl_comp.specs.RunFaults.{is_read}
 use Rattle.cpl_comp.specs.Turns.{is_among}

@@ -95,9 +95,7 @@ fn read_by_merges(rows: &[MergeRow], field: u16) -> bool
 fn read_by_terms(terms: &[(u16, u16)], field: u16) -> bool
     ensures { result ≡ list_any (λ term. term.0 == field || term.1 == field) terms.now }
 {
-    terms
-        .iter()
-        .any(|term| term.0 == field || term.1 == field)
+    terms.iter().any(|term| term.0 == field || term.1 == field)
 }
 
 /// Whether a phase gives a field a new value.

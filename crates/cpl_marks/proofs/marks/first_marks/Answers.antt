@@ -1,4 +1,4 @@
-use Rattle.std.proofs.Common.{rules, ◌≡◌, ◌∙◌, sym, ap, List, Option, replicate, length, None}
+use Rattle.std.proofs.Common.{rules, ◌≡◌, ◌∙◌, sym, ap, List, Option, replicate, None}
 use Rattle.std.specs.Prelude.{ℤ, pos}
 use Rattle.cpl_comp.specs.Marks.{CompMarks}
 use Rattle.cpl_marks.proofs.StartFacts.{marks-first_comp}
