@@ -62,7 +62,8 @@ pub record MarksExamples (comp : Comp) (phase : Phase) (field : Field) : Type 0 
   pub written : stamped_exports Mediator (of_five Mediator comp field) (merging phase) ≡ 3 ∷ []
   pub found : mark_faults Model (model_plan comp phase field) after_hour one_stamped
       ≡ record { place = 0; kind = Clock (pos 0) (pos 3600) } ∷ record { place = 3; kind = Import 4 None (pos 3600) } ∷ []
-  pub least : least_fault None (mark_faults Model (model_plan comp phase field) after_hour one_stamped) ≡ Some (record { place = 0; kind = Clock (pos 0) (pos 3600) })
+  pub least : least_fault None (mark_faults Model (model_plan comp phase field) after_hour one_stamped)
+      ≡ Some (record { place = 0; kind = Clock (pos 0) (pos 3600) })
   pub model_end : marks_after_run (of_five Model comp field) (merging phase) after_hour one_stamped
       ≡ record { clock = pos 4500; runs = 5; stamps = Some (pos 4500) ∷ Some (pos 4500) ∷ None ∷ Some (pos 4500) ∷ None ∷ [] }
   pub mediator_end : marks_after_run (of_five Mediator comp field) (merging phase) after_hour one_stamped
