@@ -1,0 +1,5 @@
+pub mod FaultFacts
+mod ListFacts
+mod PlanFacts
+mod ReadFacts
+pub mod StartFacts
