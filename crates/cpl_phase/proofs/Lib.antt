@@ -1,0 +1,10 @@
+mod AssignmentFacts
+mod AverageFacts
+mod CheckFacts
+mod HeldFacts
+mod KeepingFacts
+mod KeptFacts
+mod PutFacts
+mod RefreshedFacts
+mod SitesFacts
+mod WrittenFacts

@@ -1,0 +1,9 @@
+pub mod Assignments
+pub mod Checks
+pub mod Keeping
+pub mod Kept
+pub mod Merging
+pub mod Puts
+pub mod Refreshed
+pub mod Sites
+pub mod Worlds

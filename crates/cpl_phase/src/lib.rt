@@ -1,0 +1,22 @@
+//! Phases and start rules of a component, carried out over a block of its grid.
+#![tactic(auto)]
+
+mod averaging;
+mod checking;
+mod fault;
+mod filling;
+mod keeping;
+mod keeping_all;
+mod merging;
+mod putting;
+mod refreshing;
+mod sites;
+mod updating;
+
+pub use averaging::average_all;
+pub use checking::check_ranges;
+pub use fault::PhaseFault;
+pub use filling::assign_all;
+pub use keeping_all::keep_all;
+pub use sites::{Sites, sites_of};
+pub use updating::carry_out;
