@@ -73,15 +73,3 @@ sums-set accums first k new there same before i = elim (cases_eq i k) [
       ∙ same ∙ before k ∙ ap (λ n. length (accum_at first n).sums) (sym is)
   | inr other ↦ ap (λ (a : RunningSums). length a.sums) (get_or-set_other accums k i new (no_sums 0) other) ∙ before i
 ]
-
-pub counts-set : (accums first : List RunningSums) (k j : ℕ) (new : RunningSums) → k < length accums → new.count ≡ (accum_at accums k).count + 1
-    → ((i : ℕ) → (accum_at accums i).count ≤ (accum_at first i).count + j) → (i : ℕ) → (accum_at (set accums k new) i).count ≤ (accum_at first i).count + (j + 1)
-counts-set accums first k j new there more before i = elim (cases_eq i k) [
-  | inl is ↦
-      let P : ℕ → Type 0 = λ n. (accum_at (set accums k new) n).count ≤ (accum_at first n).count + (j + 1) in
-      let R : RunningSums → Type 0 = λ a. a.count ≤ (accum_at first k).count + (j + 1) in
-      subst P (sym is) (subst R (sym (get_or-set_same accums k new (no_sums 0) there)) (omega (arith, more, before k)))
-  | inr other ↦
-      let R : RunningSums → Type 0 = λ a. a.count ≤ (accum_at first i).count + (j + 1) in
-      subst R (sym (get_or-set_other accums k i new (no_sums 0) other)) (omega (arith, before i))
-]

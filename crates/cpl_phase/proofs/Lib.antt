@@ -1,3 +1,4 @@
+mod AccumCheckFacts
 mod AssignmentFacts
 mod AverageFacts
 mod CheckFacts

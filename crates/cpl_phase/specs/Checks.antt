@@ -1,14 +1,16 @@
--- What the ranges of a phase find amiss over a block.
-use Rattle.std.specs.Prelude.{ℕ, ◌+◌, ◌-◌, ◌*◌, ℤ, List, fold, Option}
+-- What the averages and the ranges of a phase find amiss over a block.
+use Rattle.std.specs.Prelude.{ℕ, ◌+◌, ◌-◌, ◌*◌, nat_lt, ℤ, List, fold, Option}
 use Rattle.std.specs.List.{enumerate_from, flat_map}
 use Rattle.std.specs.Option.{option_map}
 use Rattle.cpl_block.specs.Frames.{home_of, value_at}
 use Rattle.cpl_block.specs.declared.frame.Frame.{Frame}
 use Rattle.cpl_comp.specs.RunFaults.{Fault, is_in_range, lesser, unless}
 use Rattle.cpl_comp.specs.declared.component.RangeRow.{RangeRow}
-use Rattle.cpl_comp.specs.declared.found.FoundKind.TheVariants.{Range}
+use Rattle.cpl_comp.specs.declared.found.FoundKind.TheVariants.{Average, Range}
 use Rattle.cpl_grid.specs.Parts.{cells_of_part}
+use Rattle.cpl_mediator.specs.Averages.{RunningSums}
 use Rattle.cpl_sweep.specs.Places.{field_at}
+use Rattle.cpl_phase.specs.Kept.{accum_at}
 use Rattle.cpl_phase.specs.declared.fault.PhaseFault.{PhaseFault}
 
 -- the fault that a noted one is
@@ -22,6 +24,14 @@ noted_fault found = option_map fault_of found
 -- the least of a fault, if there is one, and others
 abbrev pub least_fault : Option Fault → List Fault → Option Fault
 least_fault found faults = fold (lesser (λ fault. fault.place)) found faults
+
+-- running sums of no field, which have no average
+abbrev pub accum_fault : List RunningSums → ℕ × ℕ → List Fault
+accum_fault accums numbered = unless (nat_lt 0 (accum_at accums numbered.1).count) (65 + numbered.0) (Average numbered.1)
+
+-- those of the fields of these places
+abbrev pub accum_faults : List RunningSums → List ℕ → List Fault
+accum_faults accums places = flat_map (accum_fault accums) (enumerate_from 0 places)
 
 -- a value of a cell outside its range
 abbrev pub value_fault : ℕ → ℤ → ℕ × RangeRow → List Fault

@@ -7,7 +7,7 @@ ghost use Rattle.cpl_comp.specs.Worlds.{FieldWorld};
 ghost use Rattle.cpl_comp.specs.Writes.{average_write, emptied};
 ghost use Rattle.cpl_grid.specs.Owners.{Layout};
 ghost use Rattle.cpl_sweep.specs.Places.{field_at};
-ghost use Rattle.cpl_phase.specs.Kept.{AreAccums, StandForKept};
+ghost use Rattle.cpl_phase.specs.Kept.{AreAccums, StandForKept, accum_at};
 ghost use Rattle.cpl_phase.specs.Refreshed.{AreOnBlock};
 ghost use Rattle.cpl_phase.specs.Sites.{AreSites};
 ghost use Rattle.cpl_phase.specs.Worlds.{HoldFields, IsWritten};
@@ -46,6 +46,8 @@ pub fn average_all(
     ensures kept { (count : ℕ) (world : List FieldWorld) → count ≤ length fields.now → StandForKept frame.now count world accums.old
         → StandForKept frame.now count (fold emptied world places.now) accums.new }
     ensures accums { AreAccums (length sites.now.homes.items) (length fields.now) accums.new }
+    ensures sums { (k : ℕ) → length (accum_at accums.new k).sums ≡ length (accum_at accums.old k).sums }
+    ensures aged { (bound : ℕ) → All (λ accum. accum.count ≤ bound) accums.old → All (λ accum. accum.count ≤ bound) accums.new }
     ensures others { AreOnBlock frame.now (length others.old) others.new }
 {
     frame_laws(frame);

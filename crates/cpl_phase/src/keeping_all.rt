@@ -1,6 +1,6 @@
 //! What a phase keeps for its averages.
 
-ghost use Rattle.std.specs.Prelude.{◌≡◌, ◌+◌, ◌^◌, ◌<◌, ◌≤◌, All, List, ℕ, fold, length};
+ghost use Rattle.std.specs.Prelude.{◌≡◌, ◌≢◌, ◌+◌, ◌^◌, ◌<◌, ◌≤◌, All, AllPairs, List, ℕ, fold, length, map};
 ghost use Rattle.cpl_base.specs.Numbers.{IsValue};
 ghost use Rattle.cpl_block.specs.Frames.{places_in};
 ghost use Rattle.cpl_comp.specs.Readings.{Reading};
@@ -24,8 +24,9 @@ use cpl_field::Field;
 use cpl_mediator::Accum;
 use cpl_rule::{Room, Scene, assign};
 
-/// Keeps the values of the rules of rows for the fields of these rows, as they are from the fields of a component. The values
-/// of each are worked out in `further`, and lined up in `cells`. Fewer than 2^24 fields are kept for any. Takes no memory.
+/// Keeps the values of the rules of rows for the fields of these rows, no two the same, as they are from the fields of a
+/// component. The values of each are worked out in `further`, and lined up in `cells`. Fewer than 2^24 fields have been kept
+/// for any of them. Takes no memory.
 ///
 /// Source: this project's own.
 pub fn keep_all(
@@ -50,7 +51,8 @@ pub fn keep_all(
     requires cells { length cells.old ≡ length sites.now.homes.items }
     requires accums { All (IsAccumOf (length sites.now.homes.items)) accums.old }
     requires sums { All (λ row. length (accum_at accums.old row.field).sums ≡ length sites.now.homes.items) rows.now }
-    requires counts { All (λ row. (accum_at accums.old row.field).count + length rows.now ≤ 2 ^ 24) rows.now }
+    requires once { AllPairs (λ a b. a ≢ b) (map (λ row. row.field) rows.now) }
+    requires counts { All (λ row. (accum_at accums.old row.field).count < 2 ^ 24) rows.now }
     ensures kept { (halo : List ℕ) (reading : Reading) (count : ℕ) (world : List FieldWorld)
         → IsAt scene.now.moment scene.now.frame.grid reading → reading.entries ≡ answers_of (entries_of book.now)
         → All (λ row. All (IsHaloed halo) (arguments_of row.rule)) rows.now
@@ -59,6 +61,8 @@ pub fn keep_all(
         → StandForKept scene.now.frame count (fold (kept_more reading) world rows.now) accums.new }
     ensures accums { All (IsAccumOf (length sites.now.homes.items)) accums.new }
     ensures count { length accums.new ≡ length accums.old }
+    ensures sums { (k : ℕ) → length (accum_at accums.new k).sums ≡ length (accum_at accums.old k).sums }
+    ensures aged { (bound : ℕ) → All (λ accum. accum.count ≤ bound) accums.old → All (λ accum. accum.count ≤ bound + 1) accums.new }
     ensures room { IsAsRoomy room.old room.new }
     ensures further { length further.new ≡ places_in scene.now.frame }
     ensures further_values { All IsValue further.new }

@@ -1,4 +1,4 @@
-use Rattle.std.proofs.Common.{◌≡◌, ◌≢◌, ◌∙◌, ◌<◌, ℕ, List, [], ℤ, ap, arith, fold, get_or, inl, inr, length, set, subst, sym, take}
+use Rattle.std.proofs.Common.{◌≡◌, ◌≢◌, ◌∙◌, ◌<◌, ◌≤◌, ℕ, List, [], ℤ, ap, arith, fold, get_or, inl, inr, length, set, subst, sym, take}
 use Rattle.std.proofs.lemmas.Bool.{cases_eq}
 use Rattle.std.proofs.lemmas.List.{get_or_default, get_or-set_other, get_or-set_same, length-set, take_all}
 use Rattle.std.proofs.lemmas.List.Elements.{All-set}
@@ -11,7 +11,7 @@ use Rattle.cpl_sweep.specs.Places.{field_at}
 use Rattle.cpl_phase.specs.Keeping.{IsAccumOf, StandsForBlock}
 use Rattle.cpl_phase.specs.Kept.{StandForKept, accum_at}
 use Rattle.cpl_phase.specs.Worlds.{IsWritten}
-use Rattle.cpl_phase.proofs.KeptFacts.{fold-more, forgotten-one}
+use Rattle.cpl_phase.proofs.KeptFacts.{fold-more, forgotten-one, sums-set}
 use Rattle.cpl_phase.proofs.RefreshedFacts.{on-block-set}
 use Rattle.cpl_phase.proofs.averaging.average_all.Goals as goal
 
@@ -61,6 +61,10 @@ loop-j-preserved c =
         number = length-set accums k new ∙ c.loop-j.invariant.accums.number;
         each = All-set (IsAccumOf (length c.args.sites.now.homes.items)) accums k new c.average.ensures.accum c.loop-j.invariant.accums.each;
       };
+      sums = sums-set accums c.args.accums.now k new at (c.average.ensures.sums ∙ ap (λ (a : RunningSums). length a.sums) (sym accum_is)) c.loop-j.invariant.sums;
+      aged = λ bound each.
+          let Few : RunningSums → Type 0 = λ a. a.count ≤ bound in
+          All-set Few accums k new (omega (arith, c.average.ensures.stands.count)) (c.loop-j.invariant.aged bound each);
       others = on-block-set frame (length c.args.others.now) others j out c.loop-j.invariant.others c.average.ensures.places c.average.ensures.out_values;
     }
 

@@ -20,5 +20,7 @@ invariant-loop-j l = record {
       → StandForKept l.frame count (fold emptied world (take l.j l.places)) l.accums;
   same : (k : ℕ) → ((i : ℕ) → i < l.j → slice_index l.places i ≢ k) → accum_at l.accums k ≡ accum_at l.initial.accums k;
   accums : AreAccums (length l.sites.homes.items) (length l.fields) l.accums;
+  sums : (k : ℕ) → length (accum_at l.accums k).sums ≡ length (accum_at l.initial.accums k).sums;
+  aged : (bound : ℕ) → All (λ accum. accum.count ≤ bound) l.initial.accums → All (λ accum. accum.count ≤ bound) l.accums;
   others : AreOnBlock l.frame (length l.initial.others) l.others;
 }

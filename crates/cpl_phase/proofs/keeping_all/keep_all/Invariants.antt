@@ -1,5 +1,6 @@
-use Rattle.std.proofs.Common.{◌≡◌, ◌+◌, ◌≤◌, ℕ, List, fold, length, take}
+use Rattle.std.proofs.Common.{◌≡◌, ◌≢◌, ◌+◌, ◌<◌, ◌≤◌, ℕ, List, fold, length, map, take}
 use Rattle.std.specs.List.{All}
+use Rattle.std.specs.Prelude.{slice_index}
 use Rattle.cpl_base.specs.Numbers.{IsValue}
 use Rattle.cpl_block.specs.Frames.{places_in}
 use Rattle.cpl_comp.specs.Readings.{Reading}
@@ -24,7 +25,8 @@ invariant-loop-j g l = record {
       → StandForKept l.scene.frame count (fold (kept_more reading) world (take l.j l.rows)) l.accums;
   accums : All (IsAccumOf (length l.sites.homes.items)) l.accums;
   sums : (k : ℕ) → length (accum_at l.accums k).sums ≡ length (accum_at l.initial.accums k).sums;
-  counts : (k : ℕ) → (accum_at l.accums k).count ≤ (accum_at l.initial.accums k).count + l.j;
+  same : (k : ℕ) → ((i : ℕ) → i < l.j → slice_index (map (λ row. row.field) l.rows) i ≢ k) → accum_at l.accums k ≡ accum_at l.initial.accums k;
+  aged : (bound : ℕ) → All (λ accum. accum.count ≤ bound) l.initial.accums → All (λ accum. accum.count ≤ bound + 1) l.accums;
   room : IsAsRoomy l.initial.room l.room;
   further : length l.further ≡ places_in l.scene.frame;
   further_values : All IsValue l.further;
