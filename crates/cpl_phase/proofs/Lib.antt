@@ -5,6 +5,7 @@ mod CheckFacts
 mod HeldFacts
 mod KeepingFacts
 mod KeptFacts
+pub mod KeptWritten
 mod PutFacts
 mod RefreshedFacts
 mod SitesFacts
