@@ -12,6 +12,7 @@ mod merging;
 mod putting;
 mod refreshing;
 mod sites;
+mod starting;
 mod updating;
 
 pub use averaging::average_all;
@@ -21,4 +22,5 @@ pub use filling::assign_all;
 pub use keeping_all::keep_all;
 pub use kept_checks::check_averages;
 pub use sites::{Sites, sites_of};
+pub use starting::started_places;
 pub use updating::carry_out;
