@@ -1,5 +1,6 @@
 -- Running sums of no field stand for what nothing is kept of.
 use Rattle.std.proofs.Common.{◌≡◌, ℕ, ◌+◌, ◌<◌, List, [], ◌∷◌, ◌++◌, ℤ, refl, ap, arith}
+use Rattle.std.proofs.lemmas.Bool.{lt-ltb}
 use Rattle.std.proofs.lemmas.List.Elements.{All-head, All-tail}
 use Rattle.std.specs.List.{All, enumerate_from, flat_map}
 use Rattle.std.specs.Prelude.{nat_lt}
@@ -15,7 +16,7 @@ use Rattle.cpl_phase.specs.Kept.{StandForKept, accum_at}
 -- there are fields in the sums where something is kept
 same-kept : (frame : Frame) (running : RunningSums) (kept : List (List ℤ)) → StandsForBlock frame running kept → nat_lt 0 running.count ≡ has_kept kept
 same-kept frame running [] stands = ap (nat_lt 0) stands.count
-same-kept frame running (first ∷ more) stands = ap (nat_lt 0) stands.count
+same-kept frame running (first ∷ more) stands = lt-ltb 0 running.count (omega (arith, stands.count))
 
 -- the faults are the same
 pub same-averages : (frame : Frame) (count : ℕ) (world : List FieldWorld) (accums : List RunningSums) → StandForKept frame count world accums → (n : ℕ) (places : List ℕ) → All (λ k. k < count) places

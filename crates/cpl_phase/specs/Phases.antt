@@ -36,6 +36,6 @@ pub record IsPhaseOn (scene : Scene) (book : List NativeEntry) (phase : Phase) :
   pub averages_once : AllPairs (λ a b. a ≢ b) phase.averages
 
 -- The fields of a block, and the running sums, are those of the whole component after a phase.
-pub record IsAfter (scene : Scene) (reading : Reading) (world : List FieldWorld) (phase : Phase) (fields : List (List ℤ)) (accums : List RunningSums) : Type 0 where
-  pub fields : HoldFields scene.frame scene.fields (fields_after reading world phase) fields
-  pub kept : StandForKept scene.frame scene.fields (fields_after reading world phase) accums
+pub record IsAfter (scene : Scene) (reading : Reading) (world : List FieldWorld) (phase : Phase) (news : List (List ℤ)) (running : List RunningSums) : Type 0 where
+  pub fields : HoldFields scene.frame scene.fields (fields_after reading world phase) news
+  pub kept : StandForKept scene.frame scene.fields (fields_after reading world phase) running

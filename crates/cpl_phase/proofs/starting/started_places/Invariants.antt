@@ -5,5 +5,5 @@ use Rattle.cpl_phase.proofs.starting.started_places.Given as goal
 
 -- those found, and those still to be found, are all
 abbrev pub invariant-loop-k : goal.invariant-loop-k
-invariant-loop-k g l =
+invariant-loop-k l =
     l.places.items ++ filter_map place_started (enumerate_from l.k (drop l.k l.described)) ≡ places_started l.described
