@@ -1,0 +1,12 @@
+mod AccumCheckFacts
+mod AssignmentFacts
+mod AverageFacts
+mod CheckFacts
+mod HeldFacts
+mod KeepingFacts
+mod KeptFacts
+pub mod KeptWritten
+mod PutFacts
+mod RefreshedFacts
+mod SitesFacts
+mod WrittenFacts

@@ -1,0 +1,26 @@
+//! Phases and start rules of a component, carried out over a block of its grid.
+#![tactic(auto)]
+
+mod averaging;
+mod checking;
+mod fault;
+mod filling;
+mod keeping;
+mod keeping_all;
+mod kept_checks;
+mod merging;
+mod putting;
+mod refreshing;
+mod sites;
+mod starting;
+mod updating;
+
+pub use averaging::average_all;
+pub use checking::check_ranges;
+pub use fault::PhaseFault;
+pub use filling::assign_all;
+pub use keeping_all::keep_all;
+pub use kept_checks::check_averages;
+pub use sites::{Sites, sites_of};
+pub use starting::started_places;
+pub use updating::carry_out;
