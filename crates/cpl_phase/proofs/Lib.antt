@@ -8,5 +8,6 @@ mod KeptFacts
 pub mod KeptWritten
 mod PutFacts
 mod RefreshedFacts
+mod ShownFacts
 mod SitesFacts
 mod WrittenFacts

@@ -6,6 +6,7 @@ pub mod Merging
 pub mod Phases
 pub mod Puts
 pub mod Refreshed
+pub mod Shown
 pub mod Sites
 pub mod Starts
 pub mod Worlds

@@ -100,7 +100,7 @@ fn scatter_field(frame: &Frame, sites: &Sites, cells: &[i64], field: &mut Field)
 }
 
 /// Writes the values of a field at the cells of a block, one behind the other.
-fn gather(frame: &Frame, sites: &Sites, field: &[i64], cells: &mut [i64])
+pub(crate) fn gather(frame: &Frame, sites: &Sites, field: &[i64], cells: &mut [i64])
     requires sites { AreSites frame.now sites.now }
     requires field { length field.now ≡ places_in frame.now }
     requires cells { length cells.old ≡ length sites.now.homes.items }

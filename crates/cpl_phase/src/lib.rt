@@ -11,6 +11,7 @@ mod kept_checks;
 mod merging;
 mod putting;
 mod refreshing;
+mod showing;
 mod sites;
 mod starting;
 mod updating;
