@@ -1,5 +1,5 @@
-pub mod ListFacts
 pub mod FaultFacts
-pub mod PlanFacts
+mod ListFacts
+mod PlanFacts
+mod ReadFacts
 pub mod StartFacts
-pub mod ReadFacts

@@ -1,12 +1,12 @@
 -- What is found and stamped by a plan is what components say.
-use Rattle.std.proofs.Common.{◌≡◌, ℕ, ◌+◌, Bool, true, false, List, [], ◌++◌, get_or, refl, sym, ap, subst, ◌∙◌}
-use Rattle.std.specs.Prelude.{ℤ, pos, ◌&&◌, map, Option, Some, None, slice_get, if◌then◌else◌}
-use Rattle.std.specs.List.{enumerate_from, flat_map}
+use Rattle.std.proofs.Common.{◌≡◌, ℕ, ◌+◌, Bool, true, false, List, [], ◌++◌, get_or, refl, sym, ap, ◌∙◌}
+use Rattle.std.specs.Prelude.{ℤ, map, Option, Some, None, slice_get, if◌then◌else◌}
+use Rattle.std.specs.List.{enumerate_from}
 use Rattle.std.specs.Option.{option_map_or}
 use Rattle.std.proofs.Math.ListN.{get_or-map}
-use Rattle.cpl_comp.specs.Marks.{CompMarks, marks_after_run, marks_of, stamps_at}
+use Rattle.cpl_comp.specs.Marks.{CompMarks, marks_of}
 use Rattle.cpl_comp.specs.RunFaults.{Fault, clock_faults, first_faults, import_fault, import_faults, is_stamp, unless, wanted_stamp}
-use Rattle.cpl_comp.specs.Turns.{Turn, places_of, stamped_exports, step_end}
+use Rattle.cpl_comp.specs.Turns.{Turn, places_of}
 use Rattle.cpl_comp.specs.Worlds.{CompWorld, FieldWorld, no_field}
 use Rattle.cpl_comp.specs.declared.component.Comp.{Comp}
 use Rattle.cpl_comp.specs.declared.component.Field.{Field}
@@ -17,8 +17,27 @@ use Rattle.cpl_comp.specs.declared.component.Wanted.{Wanted}
 use Rattle.cpl_comp.specs.declared.component.Wanted.TheVariants.{Current, Next, Unchecked}
 use Rattle.cpl_comp.specs.declared.found.FoundKind.TheVariants.{Import}
 use Rattle.cpl_marks.specs.Plans.{IsPlanOf, checked_import, import_check, is_connected, is_looked_at, mark_faults, stamp_fault, stamp_faults, wanted_at}
+use Rattle.cpl_marks.specs.declared.plan.CheckedImport.{CheckedImport}
 use Rattle.cpl_marks.specs.declared.plan.StampPlan.{StampPlan}
 use Rattle.cpl_marks.proofs.ListFacts.{flat_map-filter_map}
+
+-- the field of an import that must have a stamp is the one of its place
+check-field : (numbered : ℕ × ℕ) (wanted : Wanted) → option_map_or (λ (import : CheckedImport). import.field) (import_check numbered wanted) numbered.1 ≡ numbered.1
+check-field numbered Current = refl
+check-field numbered Next = refl
+check-field numbered Unchecked = refl
+
+looked-field : (looked : Bool) (numbered : ℕ × ℕ) (wanted : Wanted)
+    → option_map_or (λ (import : CheckedImport). import.field) (if looked then import_check numbered wanted else None) numbered.1 ≡ numbered.1
+looked-field true numbered wanted = check-field numbered wanted
+looked-field false numbered wanted = refl
+
+-- and so is that of an import that is looked at
+pub checked_import-field : (comp : Comp) (phase : Phase) (connected : List Bool) (numbered : ℕ × ℕ) (import : CheckedImport)
+    → checked_import comp phase connected numbered ≡ Some import → import.field ≡ numbered.1
+checked_import-field comp phase connected numbered import is =
+    ap (λ (o : Option CheckedImport). option_map_or (λ (import : CheckedImport). import.field) o numbered.1) (sym is)
+    ∙ looked-field (is_looked_at comp phase connected numbered.1) numbered (wanted_at comp.fields numbered.1)
 
 -- what is found at an import that must have a stamp, if any
 abbrev found_at : Option ℤ → ℕ × ℕ → Option ℤ → List Fault

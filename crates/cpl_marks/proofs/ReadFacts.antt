@@ -1,10 +1,9 @@
 -- What a phase reads and writes, row by row.
 use Rattle.std.proofs.Common.{◌≡◌, ℕ, Bool, List, [], ◌∷◌, ◌++◌, sym, ap, refl, ◌∙◌}
-use Rattle.std.proofs.Math.Bool.{or_assoc}
 use Rattle.std.proofs.lemmas.List.Folds.{list_any-append}
 use Rattle.std.specs.Prelude.{◌||◌, ◌==◌, map}
 use Rattle.std.specs.List.{list_any}
-use Rattle.cpl_comp.specs.Components.{rules_of, written_fields}
+use Rattle.cpl_comp.specs.Components.{written_fields}
 use Rattle.cpl_comp.specs.Halos.{has_read, is_field_at}
 use Rattle.cpl_comp.specs.RunFaults.{is_read}
 use Rattle.cpl_comp.specs.Turns.{is_among}
@@ -38,9 +37,7 @@ pub is_written-rows : (phase : Phase) (k : ℕ)
     → ((list_any (λ row. row.field == k) phase.sets || list_any (λ row. row.field == k) phase.merges) || list_any (λ other. other == k) phase.averages)
     ≡ is_among (written_fields phase) k
 is_written-rows phase k =
-    let sets = list_any (λ (row : SetRow). row.field == k) phase.sets in
-    or_assoc sets (list_any (λ (row : MergeRow). row.field == k) phase.merges) (list_any (λ other. other == k) phase.averages)
-    ∙ ap (λ b. sets || b) (ap (λ b. b || list_any (λ other. other == k) phase.averages) (sym (list_any-map (λ other. other == k) (λ (row : MergeRow). row.field) phase.merges)))
-    ∙ ap (λ b. sets || b) (sym (list_any-append (λ other. other == k) (map (λ (row : MergeRow). row.field) phase.merges) phase.averages))
-    ∙ ap (λ b. b || list_any (λ other. other == k) (map (λ (row : MergeRow). row.field) phase.merges ++ phase.averages)) (sym (list_any-map (λ other. other == k) (λ (row : SetRow). row.field) phase.sets))
-    ∙ sym (list_any-append (λ other. other == k) (map (λ (row : SetRow). row.field) phase.sets) (map (λ (row : MergeRow). row.field) phase.merges ++ phase.averages))
+    let made = map (λ (row : SetRow). row.field) phase.sets ++ map (λ (row : MergeRow). row.field) phase.merges in
+    ap (λ b. b || list_any (λ other. other == k) phase.averages)
+    (sym (list_any-two_maps (λ other. other == k) (λ (row : SetRow). row.field) (λ (row : MergeRow). row.field) phase.sets phase.merges))
+    ∙ sym (list_any-append (λ other. other == k) made phase.averages)

@@ -1,6 +1,6 @@
 -- The marks of a component at the start.
 use Rattle.std.proofs.Common.{◌≡◌, List, [], ◌∷◌, length, refl, ap}
-use Rattle.std.specs.Prelude.{ℤ, pos, map, replicate, Option, None}
+use Rattle.std.specs.Prelude.{pos, map, replicate, None}
 use Rattle.cpl_comp.specs.Marks.{marks_of}
 use Rattle.cpl_comp.specs.Worlds.{first_comp, first_field}
 use Rattle.cpl_comp.specs.declared.component.Comp.{Comp}

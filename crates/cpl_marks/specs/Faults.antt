@@ -1,5 +1,5 @@
 -- The least of the faults of an operation.
-use Rattle.std.specs.Prelude.{ℕ, List, fold, Option}
+use Rattle.std.specs.Prelude.{List, fold, Option}
 use Rattle.std.specs.Option.{option_map}
 use Rattle.cpl_comp.specs.RunFaults.{Fault, lesser}
 use Rattle.cpl_marks.specs.declared.fault.PhaseFault.{PhaseFault}

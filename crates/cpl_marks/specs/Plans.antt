@@ -1,5 +1,5 @@
 -- What the runs of a phase look at and stamp, and the faults that a look finds.
-use Rattle.std.specs.Prelude.{◌≡◌, ℕ, ◌+◌, ◌<◌, ℤ, Bool, false, ◌&&◌, if◌then◌else◌, List, [], ◌++◌, length, slice_get, slice_index_or, All, Option, Some, None}
+use Rattle.std.specs.Prelude.{◌≡◌, ℕ, ◌+◌, ◌<◌, ℤ, Bool, false, ◌&&◌, if◌then◌else◌, List, [], ◌++◌, slice_get, slice_index_or, All, Option, Some, None}
 use Rattle.std.specs.List.{enumerate_from, filter_map, flat_map}
 use Rattle.std.specs.Option.{option_map_or}
 use Rattle.cpl_comp.specs.Marks.{CompMarks}

@@ -1,5 +1,5 @@
 -- The turn that a declared one is.
-use Rattle.std.specs.Prelude.{ℤ, pos, ◌^◌, ◌+ℤ◌, ◌≤ℤ◌, ◌<ℤ◌}
+use Rattle.std.specs.Prelude.{pos, ◌^◌, ◌+ℤ◌, ◌≤ℤ◌, ◌<ℤ◌}
 use Rattle.cpl_comp.specs.Turns.{Turn as CompTurn}
 use Rattle.cpl_marks.specs.declared.turn.Turn.{Turn}
 

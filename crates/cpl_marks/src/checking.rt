@@ -122,12 +122,7 @@ fn wanted_stamp(wanted: Wanted, turn: &Turn) -> Option<i64>
 }
 
 /// Notes a fault unless an import's stamp is this time.
-fn check_stamp(
-    import: CheckedImport,
-    stamp: Option<i64>,
-    time: i64,
-    found: &mut Option<PhaseFault>,
-)
+fn check_stamp(import: CheckedImport, stamp: Option<i64>, time: i64, found: &mut Option<PhaseFault>)
     ensures { noted_fault found.new ≡ least_fault (noted_fault found.old)
         (unless (is_stamp stamp time) (1 + import.number) (ImportFault import.field stamp time)) }
 {

@@ -27,7 +27,7 @@ fn is_read(phase: &Phase, field: u16) -> bool
     let by_sets = read_by_rows(phase.sets.items(), field);
     let by_adds = read_by_rows(phase.adds.items(), field);
     let by_merges = read_by_merges(phase.merges.items(), field);
-    by_sets || by_adds || by_merges
+    by_sets | by_adds | by_merges
 }
 
 /// Whether the rule of one of these rows reads a field.
@@ -95,9 +95,7 @@ fn read_by_merges(rows: &[MergeRow], field: u16) -> bool
 fn read_by_terms(terms: &[(u16, u16)], field: u16) -> bool
     ensures { result ≡ list_any (λ term. term.0 == field || term.1 == field) terms.now }
 {
-    terms
-        .iter()
-        .any(|term| term.0 == field || term.1 == field)
+    terms.iter().any(|term| term.0 == field || term.1 == field)
 }
 
 /// Whether a phase gives a field a new value.
@@ -107,7 +105,7 @@ pub(crate) fn is_written(phase: &Phase, field: u16) -> bool
     let by_sets = sets_field(phase.sets.items(), field);
     let by_merges = merges_field(phase.merges.items(), field);
     let by_averages = has_field(phase.averages.items(), field);
-    by_sets || by_merges || by_averages
+    by_sets | by_merges | by_averages
 }
 
 /// Whether one of these rows sets a field.

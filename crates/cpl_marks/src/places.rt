@@ -24,11 +24,7 @@ pub fn export_places(alloc: Global, fields: &[Field]) -> Result<Many<u16>, Memor
 }
 
 /// The places of the fields of a role, ascending.
-pub(crate) fn places_of(
-    alloc: Global,
-    role: Role,
-    fields: &[Field],
-) -> Result<Many<u16>, Memory>
+pub(crate) fn places_of(alloc: Global, role: Role, fields: &[Field]) -> Result<Many<u16>, Memory>
     requires { length fields.now ≤ 64 }
     ensures value { IfOk result (λ places. places ≡ places_of role fields.now) }
     ensures within { IfOk result (λ places. All (λ k. k < length fields.now) places) }

@@ -1,7 +1,7 @@
-use Rattle.std.proofs.Common.{◌≡◌, List, ap, subst, sym, take}
+use Rattle.std.proofs.Common.{◌≡◌, subst, take}
 use Rattle.std.specs.Int.{w64}
 use Rattle.std.proofs.lemmas.Int.{to_z-of_z}
-use Rattle.std.specs.Prelude.{ℤ, Option}
+use Rattle.std.specs.Prelude.{ℤ}
 use Rattle.cpl_comp.specs.Marks.{stamps_at}
 use Rattle.cpl_marks.proofs.ListFacts.{stamps-next}
 use Rattle.cpl_marks.proofs.stamping.stamp.Goals as goal
