@@ -54,12 +54,12 @@ module _ (frame : Frame) (cells : ℕ) (fields : List (List ℤ)) where
     number = two.number ∙ one.number;
     count = two.count;
     fresh = λ k below among. elim (cases_Bool (is_among second k)) [
-        | inl yes_ ↦ two.fresh k (subst (λ n. k < n) (sym one.number) below) yes_
-        | inr none ↦
-            let both = among-append first second k in
-            let there : is_among first k ≡ true = sym (or-none (is_among first k)) ∙ ap (λ b. is_among first k || b) (sym none) ∙ sym both ∙ among in
-            two.kept k none ∙ one.fresh k below there
-      ];
+      | inl yes_ ↦ two.fresh k (subst (λ n. k < n) (sym one.number) below) yes_
+      | inr none ↦
+          let both = among-append first second k in
+          let there : is_among first k ≡ true = sym (or-none (is_among first k)) ∙ ap (λ b. is_among first k || b) (sym none) ∙ sym both ∙ among in
+          two.kept k none ∙ one.fresh k below there
+    ];
     kept = λ k among.
         let parts = or-parts (is_among first k) (is_among second k) (sym (among-append first second k) ∙ among) in
         two.kept k parts.1 ∙ one.kept k parts.0;

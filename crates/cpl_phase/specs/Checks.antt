@@ -11,19 +11,7 @@ use Rattle.cpl_grid.specs.Parts.{cells_of_part}
 use Rattle.cpl_mediator.specs.Averages.{RunningSums}
 use Rattle.cpl_sweep.specs.Places.{field_at}
 use Rattle.cpl_phase.specs.Kept.{accum_at}
-use Rattle.cpl_phase.specs.declared.fault.PhaseFault.{PhaseFault}
-
--- the fault that a noted one is
-abbrev pub fault_of : PhaseFault → Fault
-fault_of noted = record { place = noted.place; kind = noted.kind }
-
--- that of what is noted, if anything is
-abbrev pub noted_fault : Option PhaseFault → Option Fault
-noted_fault found = option_map fault_of found
-
--- the least of a fault, if there is one, and others
-abbrev pub least_fault : Option Fault → List Fault → Option Fault
-least_fault found faults = fold (lesser (λ fault. fault.place)) found faults
+use Rattle.cpl_marks.specs.declared.fault.PhaseFault.{PhaseFault}
 
 -- running sums of no field, which have no average
 abbrev pub accum_fault : List RunningSums → ℕ × ℕ → List Fault

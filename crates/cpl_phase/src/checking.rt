@@ -5,16 +5,17 @@ ghost use Rattle.std.specs.List.{flat_map};
 ghost use Rattle.cpl_comp.specs.RunFaults.{cell_faults};
 ghost use Rattle.cpl_comp.specs.Worlds.{FieldWorld};
 ghost use Rattle.cpl_grid.specs.Parts.{cells_of_part};
-ghost use Rattle.cpl_phase.specs.Checks.{block_faults, least_fault, noted_fault, place_faults, value_fault};
+ghost use Rattle.cpl_marks.specs.Faults.{least_fault, noted_fault};
+ghost use Rattle.cpl_phase.specs.Checks.{block_faults, place_faults, value_fault};
 ghost use Rattle.cpl_phase.specs.Refreshed.{AreOnBlock};
 ghost use Rattle.cpl_phase.specs.Sites.{AreSites};
 ghost use Rattle.cpl_phase.specs.Worlds.{HoldFields};
 
-use crate::fault::{PhaseFault, note};
 use crate::sites::Sites;
 use cpl_block::Frame;
 use cpl_comp::{FoundKind, RangeRow};
 use cpl_field::Field;
+use cpl_marks::{PhaseFault, note};
 
 /// Checks ranges at all cells of a block, and notes the least fault. Takes no memory.
 ///

@@ -5,11 +5,12 @@ ghost use Rattle.cpl_block.specs.declared.frame.Frame.{Frame};
 ghost use Rattle.cpl_comp.specs.RunFaults.{average_faults, unless};
 ghost use Rattle.cpl_comp.specs.Worlds.{FieldWorld};
 ghost use Rattle.cpl_comp.specs.declared.found.FoundKind.TheVariants.{Average};
-ghost use Rattle.cpl_phase.specs.Checks.{accum_faults, least_fault, noted_fault};
+ghost use Rattle.cpl_marks.specs.Faults.{least_fault, noted_fault};
+ghost use Rattle.cpl_phase.specs.Checks.{accum_faults};
 ghost use Rattle.cpl_phase.specs.Kept.{StandForKept};
 
-use crate::fault::{PhaseFault, note};
 use cpl_comp::{FoundKind, Phase};
+use cpl_marks::{PhaseFault, note};
 use cpl_mediator::Accum;
 
 /// Checks that something was kept for the field of each average of a phase, and notes the least fault. `accums` are the

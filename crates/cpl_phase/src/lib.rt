@@ -3,25 +3,27 @@
 
 mod averaging;
 mod checking;
-mod fault;
 mod filling;
 mod keeping;
 mod keeping_all;
 mod kept_checks;
+mod local;
 mod merging;
 mod putting;
 mod refreshing;
 mod showing;
 mod sites;
+mod spare;
 mod starting;
 mod updating;
 
 pub use averaging::average_all;
 pub use checking::check_ranges;
-pub use fault::PhaseFault;
 pub use filling::assign_all;
 pub use keeping_all::keep_all;
 pub use kept_checks::check_averages;
+pub use local::{Area, LocalComp};
 pub use sites::{Sites, sites_of};
+pub use spare::Spare;
 pub use starting::started_places;
 pub use updating::carry_out;

@@ -2,7 +2,8 @@ use Rattle.std.proofs.Common.{◌≡◌, drop}
 use Rattle.std.specs.List.{enumerate_from, flat_map}
 use Rattle.cpl_block.specs.Frames.{value_at}
 use Rattle.cpl_sweep.specs.Places.{field_at}
-use Rattle.cpl_phase.specs.Checks.{least_fault, noted_fault, place_faults, value_fault}
+use Rattle.cpl_marks.specs.Faults.{least_fault, noted_fault}
+use Rattle.cpl_phase.specs.Checks.{place_faults, value_fault}
 use Rattle.cpl_phase.proofs.checking.check_place.Given as goal
 
 -- what is left to check finds what all find

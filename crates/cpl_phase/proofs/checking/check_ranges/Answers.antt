@@ -1,5 +1,5 @@
 use Rattle.std.proofs.Common.{◌∙◌, ap}
-use Rattle.cpl_phase.specs.Checks.{least_fault, noted_fault}
+use Rattle.cpl_marks.specs.Faults.{least_fault, noted_fault}
 use Rattle.cpl_phase.proofs.CheckFacts.{same-block}
 use Rattle.cpl_phase.proofs.checking.check_ranges.Goals as goal
 

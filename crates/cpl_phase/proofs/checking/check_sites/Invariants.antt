@@ -1,7 +1,8 @@
 use Rattle.std.proofs.Common.{◌≡◌, drop}
 use Rattle.std.specs.List.{flat_map}
 use Rattle.cpl_block.specs.Frames.{home_of}
-use Rattle.cpl_phase.specs.Checks.{block_faults, least_fault, noted_fault, place_faults}
+use Rattle.cpl_marks.specs.Faults.{least_fault, noted_fault}
+use Rattle.cpl_phase.specs.Checks.{block_faults, place_faults}
 use Rattle.cpl_phase.proofs.checking.check_sites.Given as goal
 
 -- what is left to check finds what all find

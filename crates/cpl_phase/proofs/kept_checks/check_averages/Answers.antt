@@ -1,5 +1,6 @@
 use Rattle.std.proofs.Common.{◌∙◌, ap}
-use Rattle.cpl_phase.specs.Checks.{accum_faults, least_fault, noted_fault}
+use Rattle.cpl_marks.specs.Faults.{least_fault, noted_fault}
+use Rattle.cpl_phase.specs.Checks.{accum_faults}
 use Rattle.cpl_phase.proofs.AccumCheckFacts.{same-averages}
 use Rattle.cpl_phase.proofs.kept_checks.check_averages.Goals as goal
 

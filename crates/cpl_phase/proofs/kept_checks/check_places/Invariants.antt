@@ -1,6 +1,7 @@
 use Rattle.std.proofs.Common.{◌≡◌, drop}
 use Rattle.std.specs.List.{enumerate_from, flat_map}
-use Rattle.cpl_phase.specs.Checks.{accum_fault, accum_faults, least_fault, noted_fault}
+use Rattle.cpl_marks.specs.Faults.{least_fault, noted_fault}
+use Rattle.cpl_phase.specs.Checks.{accum_fault, accum_faults}
 use Rattle.cpl_phase.proofs.kept_checks.check_places.Given as goal
 
 -- what is left to check finds what all find
