@@ -3,6 +3,7 @@ mod AssignmentFacts
 mod AverageFacts
 mod CheckFacts
 mod HeldFacts
+mod ImportFacts
 mod KeepingFacts
 mod KeptFacts
 pub mod KeptWritten

@@ -1,5 +1,6 @@
 pub mod Assignments
 pub mod Checks
+pub mod Imported
 pub mod Keeping
 pub mod Kept
 pub mod Locals

@@ -86,7 +86,7 @@ fn copy(field: &Field, out: &mut Field)
 }
 
 /// Writes values of the cells of a block to their places of a field.
-fn scatter_field(frame: &Frame, sites: &Sites, cells: &[i64], field: &mut Field)
+pub(crate) fn scatter_field(frame: &Frame, sites: &Sites, cells: &[i64], field: &mut Field)
     requires sites { AreSites frame.now sites.now }
     requires field { length field.old ≡ places_in frame.now }
     requires field_values { All IsValue field.old }

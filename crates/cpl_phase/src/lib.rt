@@ -4,6 +4,7 @@
 mod averaging;
 mod checking;
 mod filling;
+mod importing;
 mod keeping;
 mod keeping_all;
 mod kept_checks;
