@@ -1,3 +1,4 @@
+mod AcceptedFacts
 mod AccumCheckFacts
 mod AssignmentFacts
 mod AverageFacts
