@@ -1,3 +1,4 @@
+pub mod Examples
 pub mod Faults
 pub mod Held
 pub mod Plans

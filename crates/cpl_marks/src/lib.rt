@@ -2,6 +2,7 @@
 #![tactic(auto)]
 
 mod checking;
+mod examples;
 mod fault;
 mod looking;
 mod marks;
@@ -11,6 +12,7 @@ mod stamping;
 mod turn;
 
 pub use checking::check_marks;
+pub use examples::marks_examples;
 pub use fault::{PhaseFault, note};
 pub use marks::{Marks, first_marks};
 pub use places::export_places;
