@@ -1,5 +1,5 @@
 -- What is kept, as it is forgotten field by field.
-use Rattle.std.proofs.Common.{◌≡◌, ◌≤◌, ◌++◌, ℕ, ◌+◌, ◌<◌, List, [], ◌∷◌, ℤ, fold, get_or, length, set, sym, ap, subst, take, ◌∙◌, inl, inr, arith}
+use Rattle.std.proofs.Common.{◌≡◌, ◌++◌, ℕ, ◌+◌, ◌<◌, List, [], ◌∷◌, ℤ, fold, get_or, length, set, sym, ap, subst, take, ◌∙◌, inl, inr, arith}
 use Rattle.std.proofs.lemmas.Bool.{cases_eq}
 use Rattle.std.proofs.lemmas.List.{get_or-set_other, get_or-set_same, map-append, take_more}
 use Rattle.std.proofs.lemmas.List.Sums.{fold-append}
