@@ -1,5 +1,5 @@
 -- What is kept, as it is forgotten field by field.
-use Rattle.std.proofs.Common.{◌≡◌, ◌++◌, ℕ, ◌+◌, ◌<◌, List, [], ◌∷◌, ℤ, fold, get_or, length, set, sym, ap, subst, take, ◌∙◌, inl, inr, arith}
+use Rattle.std.proofs.Common.{◌≡◌, ◌++◌, ℕ, ◌+◌, ◌<◌, ◌≤◌, List, [], ◌∷◌, ℤ, fold, get_or, length, set, sym, ap, subst, take, ◌∙◌, inl, inr, arith}
 use Rattle.std.proofs.lemmas.Bool.{cases_eq}
 use Rattle.std.proofs.lemmas.List.{get_or-set_other, get_or-set_same, map-append, take_more}
 use Rattle.std.proofs.lemmas.List.Sums.{fold-append}
@@ -72,4 +72,18 @@ sums-set accums first k new there same before i = elim (cases_eq i k) [
       ∙ ap (λ (a : RunningSums). length a.sums) (get_or-set_same accums k new (no_sums 0) there)
       ∙ same ∙ before k ∙ ap (λ n. length (accum_at first n).sums) (sym is)
   | inr other ↦ ap (λ (a : RunningSums). length a.sums) (get_or-set_other accums k i new (no_sums 0) other) ∙ before i
+]
+
+-- counts that were no more than before, with one that is none
+pub count-set : (accums first : List RunningSums) (k : ℕ) (new : RunningSums) → k < length accums → new.count ≡ 0
+    → ((i : ℕ) → (accum_at accums i).count ≤ (accum_at first i).count) → (i : ℕ) → (accum_at (set accums k new) i).count ≤ (accum_at first i).count
+count-set accums first k new there none before i = elim (cases_eq i k) [
+  | inl is ↦
+      let here : (accum_at (set accums k new) i).count ≡ 0 =
+      ap (λ n. (accum_at (set accums k new) n).count) is ∙ ap (λ (a : RunningSums). a.count) (get_or-set_same accums k new (no_sums 0) there) ∙ none in
+      omega (arith, here)
+  | inr other ↦
+      let here : (accum_at (set accums k new) i).count ≡ (accum_at accums i).count = ap (λ (a : RunningSums). a.count) (get_or-set_other accums k i new (no_sums 0) other) in
+      let was = before i in
+      omega (arith, here, was)
 ]

@@ -93,3 +93,12 @@ put-more target rows others fields j row next inside there =
     let later : drop (j + 1) (set others j next) ≡ drop (suc j) others = drop-set-lt (j + 1) others j next (omega arith) ∙ ap (λ n. drop n others) (add-one j) in
     (λ i. all_put (map target (drop (add-one j i) rows)) (later i) (set fields (target (get_or rows j row)) (get_or others j [])))
     ∙ sym (λ i. all_put (map target (drop-cons rows j row inside i)) (drop-cons others j [] there i) fields)
+
+-- the same of places
+pub put-place : (places : List ℕ) (others fields : List (List ℤ)) (j d : ℕ) (next : List ℤ) → j < length places → j < length others
+    → all_put (drop (j + 1) places) (drop (j + 1) (set others j next)) (set fields (get_or places j d) (get_or others j []))
+    ≡ all_put (drop j places) (drop j others) fields
+put-place places others fields j d next inside there =
+    let later : drop (j + 1) (set others j next) ≡ drop (suc j) others = drop-set-lt (j + 1) others j next (omega arith) ∙ ap (λ n. drop n others) (add-one j) in
+    (λ i. all_put (drop (add-one j i) places) (later i) (set fields (get_or places j d) (get_or others j [])))
+    ∙ sym (λ i. all_put (drop-cons places j d inside i) (drop-cons others j [] there i) fields)

@@ -34,19 +34,21 @@ pub fn average_all(
     requires frame { IsFrame frame.now }
     requires sites { AreSites frame.now sites.now }
     requires places { All (λ k. k < length fields.now) places.now }
+    requires summed { All (λ k. k < length accums.old) places.now }
     requires once { AllPairs (λ a b. a ≢ b) places.now }
     requires fields { AreOnBlock frame.now (length fields.now) fields.now }
-    requires accums { AreAccums (length sites.now.homes.items) (length fields.now) accums.old }
+    requires accums { AreAccums (length sites.now.homes.items) (length accums.old) accums.old }
     requires cells { length cells.old ≡ length sites.now.homes.items }
     requires count { length places.now ≤ length others.old }
     requires others { AreOnBlock frame.now (length others.old) others.old }
-    ensures written { (layout : Layout) (count : ℕ) (world : List FieldWorld) → layout.grid ≡ frame.now.grid → count ≤ length fields.now
+    ensures written { (layout : Layout) (count : ℕ) (world : List FieldWorld) → layout.grid ≡ frame.now.grid
         → HoldFields frame.now count world fields.now → StandForKept frame.now count world accums.old → All (λ k. k < count) places.now
         → (j : ℕ) → j < length places.now → IsWritten frame.now (average_write layout world (slice_index places.now j)) (field_at others.new j) }
-    ensures kept { (count : ℕ) (world : List FieldWorld) → count ≤ length fields.now → StandForKept frame.now count world accums.old
+    ensures kept { (count : ℕ) (world : List FieldWorld) → StandForKept frame.now count world accums.old
         → StandForKept frame.now count (fold emptied world places.now) accums.new }
-    ensures accums { AreAccums (length sites.now.homes.items) (length fields.now) accums.new }
+    ensures accums { AreAccums (length sites.now.homes.items) (length accums.old) accums.new }
     ensures sums { (k : ℕ) → length (accum_at accums.new k).sums ≡ length (accum_at accums.old k).sums }
+    ensures fewer { (k : ℕ) → (accum_at accums.new k).count ≤ (accum_at accums.old k).count }
     ensures aged { (bound : ℕ) → All (λ accum. accum.count ≤ bound) accums.old → All (λ accum. accum.count ≤ bound) accums.new }
     ensures others { AreOnBlock frame.now (length others.old) others.new }
 {
