@@ -1,10 +1,11 @@
 -- A whole phase over a block: what its run asks of it, and what it leaves.
 use Rattle.std.specs.Prelude.{◌≢◌, ℕ, ◌<◌, ℤ, List, AllPairs, map}
 use Rattle.std.specs.List.{All}
+use Rattle.cpl_block.specs.declared.frame.Frame.{Frame}
 use Rattle.cpl_comp.specs.Components.{IsMerge}
 use Rattle.cpl_comp.specs.Readings.{Reading}
 use Rattle.cpl_comp.specs.Worlds.{FieldWorld}
-use Rattle.cpl_comp.specs.Writes.{fields_after}
+use Rattle.cpl_comp.specs.Writes.{average_write, fields_after, merge_write, set_write}
 use Rattle.cpl_comp.specs.declared.component.Phase.{Phase}
 use Rattle.cpl_comp.specs.declared.component.SetRow.{SetRow}
 use Rattle.cpl_entry.specs.Entries.{NativeEntry}
@@ -13,7 +14,7 @@ use Rattle.cpl_rule.specs.Inputs.{IsHaloed, arguments_of}
 use Rattle.cpl_rule.specs.declared.scene.Scene.{Scene}
 use Rattle.cpl_phase.specs.Assignments.{AreRulesOn}
 use Rattle.cpl_phase.specs.Kept.{StandForKept}
-use Rattle.cpl_phase.specs.Worlds.{HoldFields}
+use Rattle.cpl_phase.specs.Worlds.{AreWritten, HoldFields}
 
 -- what rules read beside the cell is of the halo
 abbrev pub AreHaloed : List ℕ → List SetRow → Type 0
@@ -39,3 +40,9 @@ pub record IsPhaseOn (scene : Scene) (book : List NativeEntry) (phase : Phase) :
 pub record IsAfter (scene : Scene) (reading : Reading) (world : List FieldWorld) (phase : Phase) (news : List (List ℤ)) (running : List RunningSums) : Type 0 where
   pub fields : HoldFields scene.frame scene.fields (fields_after reading world phase) news
   pub kept : StandForKept scene.frame scene.fields (fields_after reading world phase) running
+
+-- Other fields have the values that a phase writes: means, values of rules and merges.
+pub record AreNews (frame : Frame) (reading : Reading) (world : List FieldWorld) (phase : Phase) (averaged assigned merged : List (List ℤ)) : Type 0 where
+  pub averages : AreWritten frame (map (average_write reading.layout world) phase.averages) averaged
+  pub sets : AreWritten frame (map (set_write reading) phase.sets) assigned
+  pub merges : AreWritten frame (map (merge_write reading) phase.merges) merged

@@ -14,6 +14,7 @@ mod refreshing;
 mod sites;
 mod starting;
 mod updating;
+mod working;
 
 pub use averaging::average_all;
 pub use checking::check_ranges;
