@@ -1,0 +1,124 @@
+//! A file, edits of it, and what comes of each.
+
+use crate::edits::{ALONE, COMPETING, COUPLED, Edit, Edited};
+use crate::shown::answer_over;
+use std::alloc::Global;
+use std::process::Abort;
+use std::test::Fail;
+
+/// Weights that fit.
+const WEIGHTS: &[u8] = b"1,1,0.5\n8,8,-1\n";
+
+/// Where a piece stands in a text: its place, or the text's length.
+fn place_of(text: &[u8], piece: &[u8]) -> usize {
+    let mut place = 0;
+    while place < text.len() && !text[place..].starts_with(piece) {
+        place += 1;
+    }
+    place
+}
+
+/// A text with one piece put in the place of another, which stands in it.
+fn replaced(alloc: Global, text: &[u8], edit: &Edit) -> Result<Vec<u8>, Fail> {
+    let (old, new) = edit;
+    let place = place_of(text, *old);
+    let (before, rest) = text.split_at(place);
+    let mut out = Vec::from_slice(alloc, before)?;
+    out.extend_from_slice(*new)?;
+    if let Some(behind) = rest.get(old.len()..) {
+        out.extend_from_slice(behind)?;
+    }
+    Ok(out)
+}
+
+/// The file with edits.
+pub fn edited(alloc: Global, edits: &[Edit]) -> Result<Vec<u8>, Fail> {
+    let mut text = Vec::from_slice(alloc, COUPLED)?;
+    for edit in edits {
+        text = replaced(alloc, text.as_slice(), edit)?;
+    }
+    Ok(text)
+}
+
+/// Each row has its answer.
+fn expect(rt: &impl Abort, alloc: Global, rows: &[Edited]) -> Result<(), Fail> {
+    for row in rows {
+        let (edits, wanted) = row;
+        let text = edited(alloc, *edits)?;
+        let found = answer_over(alloc, text.as_slice(), WEIGHTS, false)?;
+        assert_eq!(rt; found.as_slice(), *wanted, "at {edits:?}");
+    }
+    Ok(())
+}
+
+#[test]
+fn one_fault(rt: HostRuntime) -> Result<(), Fail> {
+    let alloc = rt.alloc();
+    expect(&rt, alloc, ALONE)
+}
+
+#[test]
+fn first_of_two_faults(rt: HostRuntime) -> Result<(), Fail> {
+    let alloc = rt.alloc();
+    expect(&rt, alloc, COMPETING)
+}
+
+/// Weights, and what is answered to the file with them.
+const WEIGHED: &[(&[u8], &[u8])] = &[
+    (b"", b"accepted operations 24"),
+    (b"1,1,-1000\n1,2,1000\n", b"accepted operations 24"),
+    (b"1,1\n", b"refused 54 BadRecord w.csv 1"),
+    (b"1,1,0.5\n1,2,x\n", b"refused 54 BadRecord w.csv 2"),
+    (b"1,1,0.5\n9,1,1\n", b"refused 55 IndexRange w.csv 2"),
+    (b"1,1,0.5\n1,0,1\n", b"refused 55 IndexRange w.csv 2"),
+    (b"1,1,1000.000000001\n", b"refused 56 WeightRange w.csv 1"),
+    (b"1,1,1\n2,2,1\n1,1,0\n", b"refused 57 PairTwice w.csv 3"),
+    (b"1,1,1\n1,1,1001\n9,9,1\n", b"refused 56 WeightRange w.csv 2"),
+];
+
+#[test]
+fn records(rt: HostRuntime) -> Result<(), Fail> {
+    let alloc = rt.alloc();
+    for (weights, wanted) in WEIGHED {
+        let found = answer_over(alloc, COUPLED, *weights, false)?;
+        assert_eq!(rt; found.as_slice(), *wanted, "at {weights:?}");
+    }
+    Ok(())
+}
+
+/// Faults of records beside a fault of a later step, and of an earlier one.
+const WEIGHED_EDITS: &[(&[Edit], &[u8], &[u8])] = &[
+    (
+        &[(b"stopTime: 2000-01-01T03:00:00", b"stopTime: 2900-01-01T00:00:00")],
+        b"1,1\n",
+        b"refused 54 BadRecord w.csv 1",
+    ),
+    (
+        &[(b"q flux W/m2 optional", b"q flux W/m2 init")],
+        b"1,1\n",
+        b"refused 53 Waiting ATM OCN",
+    ),
+    // A connector without a pair has its file judged all the same.
+    (
+        &[(b"q flux W/m2 optional", b"q tas K optional")],
+        b"1,1\n",
+        b"refused 54 BadRecord w.csv 1",
+    ),
+    // One by redistribution asks for no file.
+    (
+        &[(b":remapMethod=weights:weightFile=w.csv", b":weightFile=w.csv")],
+        b"1,1\n",
+        b"accepted operations 24",
+    ),
+];
+
+#[test]
+fn records_beside_other_faults(rt: HostRuntime) -> Result<(), Fail> {
+    let alloc = rt.alloc();
+    for (edits, weights, wanted) in WEIGHED_EDITS {
+        let text = edited(alloc, *edits)?;
+        let found = answer_over(alloc, text.as_slice(), *weights, false)?;
+        assert_eq!(rt; found.as_slice(), *wanted, "at {edits:?}");
+    }
+    Ok(())
+}

@@ -1,0 +1,101 @@
+//! The answer to a file in words: how many operations it has, the refusal, or the file that couldn't be read.
+
+ghost use Rattle.std.specs.Prelude.{◌≡◌, pos};
+
+use cpl_base::{MemShelf, Memory, Text, write_number};
+use cpl_build::{BuildFault, build};
+use cpl_entry::{Entry, EntryBook, EntryCall};
+use cpl_formula::Formula;
+use cpl_report::{Refusal, refusal_text};
+use cpl_script::System;
+use std::alloc::Global;
+use std::process::Abort;
+use std::test::Fail;
+
+/// A book of one native entry, `size`, of one input.
+pub fn book(alloc: Global) -> Result<EntryBook, Fail> {
+    let call: EntryCall = Box::new(
+        alloc,
+        |_inputs: &[i64]| -> i64
+            ensures { result ≡ pos 0 }
+        { 0 },
+    )?;
+    let mut entries = Vec::new(alloc);
+    entries.push(Entry::new(Text::of(alloc, b"size")?, 1, Formula::Number(0), call))?;
+    Ok(EntryBook::new(alloc, entries)?)
+}
+
+/// The answer to the file `conf.rc` of a shelf.
+pub fn answer_to(alloc: Global, shelf: &mut MemShelf, trace: bool) -> Result<Vec<u8>, Fail> {
+    let book = book(alloc)?;
+    match build(alloc, shelf, "conf.rc", &book, trace) {
+        Ok(system) => accepted(alloc, &system),
+        Err(BuildFault::Refused(refusal)) => refused(alloc, &refusal),
+        Err(BuildFault::ReadFault { name }) => unread(alloc, name.bytes()),
+        Err(BuildFault::Memory) => Err(Fail::from(Memory)),
+    }
+}
+
+/// The answer to this text, over a shelf that holds weights in `w.csv`.
+pub fn answer_over(
+    alloc: Global,
+    text: &[u8],
+    weights: &[u8],
+    trace: bool,
+) -> Result<Vec<u8>, Fail> {
+    let mut shelf = MemShelf::new(alloc);
+    shelf.add("conf.rc", text)?;
+    shelf.add("w.csv", weights)?;
+    answer_to(alloc, &mut shelf, trace)
+}
+
+/// The answer to the file `conf.rc` of a shelf is this.
+pub fn expect_answer(
+    rt: &impl Abort,
+    alloc: Global,
+    shelf: &mut MemShelf,
+    trace: bool,
+    wanted: &[u8],
+) -> Result<(), Fail> {
+    let found = answer_to(alloc, shelf, trace)?;
+    assert_eq!(rt; found.as_slice(), wanted);
+    Ok(())
+}
+
+/// The answer to this text, over a shelf that holds weights in `w.csv`, is this.
+pub fn expect_over(
+    rt: &impl Abort,
+    alloc: Global,
+    text: &[u8],
+    weights: &[u8],
+    trace: bool,
+    wanted: &[u8],
+) -> Result<(), Fail> {
+    let found = answer_over(alloc, text, weights, trace)?;
+    assert_eq!(rt; found.as_slice(), wanted);
+    Ok(())
+}
+
+/// An accepted system in words.
+fn accepted(alloc: Global, system: &System) -> Result<Vec<u8>, Fail> {
+    let mut text = Vec::from_slice(alloc, b"accepted operations ")?;
+    write_number(&mut text, u128::from(system.op_count()))?;
+    Ok(text)
+}
+
+/// A refusal in words: its line, without the end of it.
+fn refused(alloc: Global, refusal: &Refusal) -> Result<Vec<u8>, Fail> {
+    if refusal.number < 1 || refusal.number > 73 {
+        return Err(Fail::from(Memory));
+    }
+    let mut text = refusal_text(alloc, refusal)?;
+    text.pop();
+    Ok(text)
+}
+
+/// A file that couldn't be read in words.
+fn unread(alloc: Global, name: &[u8]) -> Result<Vec<u8>, Fail> {
+    let mut text = Vec::from_slice(alloc, b"read fault ")?;
+    text.extend_from_slice(name)?;
+    Ok(text)
+}
