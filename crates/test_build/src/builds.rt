@@ -73,7 +73,10 @@ const WEIGHED: &[(&[u8], &[u8])] = &[
     (b"1,1,0.5\n1,0,1\n", b"refused 55 IndexRange w.csv 2"),
     (b"1,1,1000.000000001\n", b"refused 56 WeightRange w.csv 1"),
     (b"1,1,1\n2,2,1\n1,1,0\n", b"refused 57 PairTwice w.csv 3"),
-    (b"1,1,1\n1,1,1001\n9,9,1\n", b"refused 56 WeightRange w.csv 2"),
+    (
+        b"1,1,1\n1,1,1001\n9,9,1\n",
+        b"refused 56 WeightRange w.csv 2",
+    ),
 ];
 
 #[test]
@@ -89,7 +92,10 @@ fn records(rt: HostRuntime) -> Result<(), Fail> {
 /// Faults of records beside a fault of a later step, and of an earlier one.
 const WEIGHED_EDITS: &[(&[Edit], &[u8], &[u8])] = &[
     (
-        &[(b"stopTime: 2000-01-01T03:00:00", b"stopTime: 2900-01-01T00:00:00")],
+        &[(
+            b"stopTime: 2000-01-01T03:00:00",
+            b"stopTime: 2900-01-01T00:00:00",
+        )],
         b"1,1\n",
         b"refused 54 BadRecord w.csv 1",
     ),
@@ -106,7 +112,10 @@ const WEIGHED_EDITS: &[(&[Edit], &[u8], &[u8])] = &[
     ),
     // One by redistribution asks for no file.
     (
-        &[(b":remapMethod=weights:weightFile=w.csv", b":weightFile=w.csv")],
+        &[(
+            b":remapMethod=weights:weightFile=w.csv",
+            b":weightFile=w.csv",
+        )],
         b"1,1\n",
         b"accepted operations 24",
     ),

@@ -23,9 +23,23 @@ fn lengthened(alloc: Global, text: &[u8], length: usize) -> Result<Vec<u8>, Fail
 fn long_files(rt: HostRuntime) -> Result<(), Fail> {
     let alloc = rt.alloc();
     let full = lengthened(alloc, COUPLED, 4_194_304)?;
-    expect_over(&rt, alloc, full.as_slice(), b"", false, b"accepted operations 24")?;
+    expect_over(
+        &rt,
+        alloc,
+        full.as_slice(),
+        b"",
+        false,
+        b"accepted operations 24",
+    )?;
     let longer = lengthened(alloc, COUPLED, 4_194_305)?;
-    expect_over(&rt, alloc, longer.as_slice(), b"", false, b"refused 1 TooLong conf.rc")?;
+    expect_over(
+        &rt,
+        alloc,
+        longer.as_slice(),
+        b"",
+        false,
+        b"refused 1 TooLong conf.rc",
+    )?;
     Ok(())
 }
 
@@ -34,9 +48,23 @@ fn long_files(rt: HostRuntime) -> Result<(), Fail> {
 fn long_weights(rt: HostRuntime) -> Result<(), Fail> {
     let alloc = rt.alloc();
     let full = lengthened(alloc, b"1,1,1\n1,2,", 67_108_864)?;
-    expect_over(&rt, alloc, COUPLED, full.as_slice(), false, b"refused 54 BadRecord w.csv 2")?;
+    expect_over(
+        &rt,
+        alloc,
+        COUPLED,
+        full.as_slice(),
+        false,
+        b"refused 54 BadRecord w.csv 2",
+    )?;
     let longer = lengthened(alloc, b"1,1,1\n1,2,", 67_108_865)?;
-    expect_over(&rt, alloc, COUPLED, longer.as_slice(), false, b"refused 1 TooLong w.csv")?;
+    expect_over(
+        &rt,
+        alloc,
+        COUPLED,
+        longer.as_slice(),
+        false,
+        b"refused 1 TooLong w.csv",
+    )?;
     Ok(())
 }
 
@@ -88,16 +116,31 @@ fn records_of_all_files(rt: HostRuntime) -> Result<(), Fail> {
     shelf.add("conf.rc", full.as_slice())?;
     expect_answer(&rt, alloc, &mut shelf, false, b"accepted operations 7")?;
     shelf.add("conf.rc", longer.as_slice())?;
-    expect_answer(&rt, alloc, &mut shelf, false, b"refused 58 TooManyWeights v.csv 1")?;
+    expect_answer(
+        &rt,
+        alloc,
+        &mut shelf,
+        false,
+        b"refused 58 TooManyWeights v.csv 1",
+    )?;
     let more = weights_of(alloc, 4_194_305)?;
     shelf.add("w.csv", more.as_slice())?;
-    expect_answer(&rt, alloc, &mut shelf, false, b"refused 58 TooManyWeights w.csv 4194305")?;
+    expect_answer(
+        &rt,
+        alloc,
+        &mut shelf,
+        false,
+        b"refused 58 TooManyWeights w.csv 4194305",
+    )?;
     Ok(())
 }
 
 /// A component on 64 PETs, sixteen phases of which read all sixteen fields two columns away.
 fn wide_halos(alloc: Global, phases: u32) -> Result<Vec<u8>, Fail> {
-    let mut out = Vec::from_slice(alloc, b"EARTH_component_list: A\nA_petlist_bounds: 0 63\nA_grid: 1024 1024\nA_vars::\n")?;
+    let mut out = Vec::from_slice(
+        alloc,
+        b"EARTH_component_list: A\nA_petlist_bounds: 0 63\nA_grid: 1024 1024\nA_vars::\n",
+    )?;
     for field in 0..16 {
         put_numbered(&mut out, b"v", field, b" = 0\n")?;
     }
@@ -132,9 +175,23 @@ fn put_numbered(out: &mut Vec<u8>, before: &[u8], number: u32, behind: &[u8]) ->
 fn numbers_of_routes(rt: HostRuntime) -> Result<(), Fail> {
     let alloc = rt.alloc();
     let eight = wide_halos(alloc, 8)?;
-    expect_over(&rt, alloc, eight.as_slice(), b"", false, b"accepted operations 2")?;
+    expect_over(
+        &rt,
+        alloc,
+        eight.as_slice(),
+        b"",
+        false,
+        b"accepted operations 2",
+    )?;
     let nine = wide_halos(alloc, 9)?;
-    expect_over(&rt, alloc, nine.as_slice(), b"", false, b"refused 60 TooManyRoutes 37158912")?;
+    expect_over(
+        &rt,
+        alloc,
+        nine.as_slice(),
+        b"",
+        false,
+        b"refused 60 TooManyRoutes 37158912",
+    )?;
     Ok(())
 }
 
@@ -142,12 +199,39 @@ fn numbers_of_routes(rt: HostRuntime) -> Result<(), Fail> {
 #[test]
 fn rows_of_traces(rt: HostRuntime) -> Result<(), Fail> {
     let alloc = rt.alloc();
-    let last: &[Edit] = &[(b"stopTime: 2000-01-01T03:00:00", b"stopTime: 2014-12-14T08:00:00")];
+    let last: &[Edit] = &[(
+        b"stopTime: 2000-01-01T03:00:00",
+        b"stopTime: 2014-12-14T08:00:00",
+    )];
     let long = edited(alloc, last)?;
-    expect_over(&rt, alloc, long.as_slice(), b"", true, b"accepted operations 917507")?;
-    let later: &[Edit] = &[(b"stopTime: 2000-01-01T03:00:00", b"stopTime: 2014-12-15T08:00:00")];
+    expect_over(
+        &rt,
+        alloc,
+        long.as_slice(),
+        b"",
+        true,
+        b"accepted operations 917507",
+    )?;
+    let later: &[Edit] = &[(
+        b"stopTime: 2000-01-01T03:00:00",
+        b"stopTime: 2014-12-15T08:00:00",
+    )];
     let longer = edited(alloc, later)?;
-    expect_over(&rt, alloc, longer.as_slice(), b"", true, b"refused 61 TraceTooLong 262192")?;
-    expect_over(&rt, alloc, longer.as_slice(), b"", false, b"accepted operations 917675")?;
+    expect_over(
+        &rt,
+        alloc,
+        longer.as_slice(),
+        b"",
+        true,
+        b"refused 61 TraceTooLong 262192",
+    )?;
+    expect_over(
+        &rt,
+        alloc,
+        longer.as_slice(),
+        b"",
+        false,
+        b"accepted operations 917675",
+    )?;
     Ok(())
 }

@@ -9,10 +9,16 @@ use std::process::Abort;
 use std::test::Fail;
 
 /// Two connectors by weights of one file.
-const TWICE: &[Edit] = &[(b"OCN -> ATM\n", b"OCN -> ATM :remapMethod=weights:weightFile=w.csv\n")];
+const TWICE: &[Edit] = &[(
+    b"OCN -> ATM\n",
+    b"OCN -> ATM :remapMethod=weights:weightFile=w.csv\n",
+)];
 
 /// Two connectors by weights of two files.
-const TWO_FILES: &[Edit] = &[(b"OCN -> ATM\n", b"OCN -> ATM :remapMethod=weights:weightFile=v.csv\n")];
+const TWO_FILES: &[Edit] = &[(
+    b"OCN -> ATM\n",
+    b"OCN -> ATM :remapMethod=weights:weightFile=v.csv\n",
+)];
 
 /// A shelf with a file and these weights.
 fn shelf_of(alloc: Global, text: &[u8], names: &[&str]) -> Result<MemShelf, Fail> {
@@ -68,7 +74,13 @@ fn loads_beside_refusals(rt: HostRuntime) -> Result<(), Fail> {
     let waiting = edited(alloc, &[(b"q flux W/m2 optional", b"q flux W/m2 init")])?;
     let mut shelf = shelf_of(alloc, waiting.as_slice(), &[])?;
     expect_answer(&rt, alloc, &mut shelf, false, b"refused 53 Waiting ATM OCN")?;
-    let long = edited(alloc, &[(b"stopTime: 2000-01-01T03:00:00", b"stopTime: 2900-01-01T00:00:00")])?;
+    let long = edited(
+        alloc,
+        &[(
+            b"stopTime: 2000-01-01T03:00:00",
+            b"stopTime: 2900-01-01T00:00:00",
+        )],
+    )?;
     let mut shelf = shelf_of(alloc, long.as_slice(), &[])?;
     expect_answer(&rt, alloc, &mut shelf, false, b"read fault w.csv")?;
     Ok(())
