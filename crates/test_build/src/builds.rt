@@ -1,7 +1,7 @@
 //! A file, edits of it, and what comes of each.
 
 use crate::edits::{ALONE, COMPETING, COUPLED, Edit, Edited};
-use crate::shown::answer_over;
+use crate::shown::{answer_over, answer_to_text};
 use std::alloc::Global;
 use std::process::Abort;
 use std::test::Fail;
@@ -40,13 +40,15 @@ pub fn edited(alloc: Global, edits: &[Edit]) -> Result<Vec<u8>, Fail> {
     Ok(text)
 }
 
-/// Each row has its answer.
+/// Each row has its answer, by the call on a shelf and by that on a text.
 fn expect(rt: &impl Abort, alloc: Global, rows: &[Edited]) -> Result<(), Fail> {
     for row in rows {
         let (edits, wanted) = row;
         let text = edited(alloc, *edits)?;
         let found = answer_over(alloc, text.as_slice(), WEIGHTS, false)?;
         assert_eq!(rt; found.as_slice(), *wanted, "at {edits:?}");
+        let of_text = answer_to_text(alloc, text.as_slice(), WEIGHTS)?;
+        assert_eq!(rt; of_text.as_slice(), *wanted, "of the text at {edits:?}");
     }
     Ok(())
 }

@@ -3,7 +3,7 @@
 ghost use Rattle.std.specs.Prelude.{◌≡◌, pos};
 
 use cpl_base::{MemShelf, Memory, Text, write_number};
-use cpl_build::{BuildFault, build};
+use cpl_build::{BuildFault, build, build_text};
 use cpl_entry::{Entry, EntryBook, EntryCall};
 use cpl_formula::Formula;
 use cpl_report::{Refusal, refusal_text};
@@ -28,7 +28,23 @@ pub fn book(alloc: Global) -> Result<EntryBook, Fail> {
 /// The answer to the file `conf.rc` of a shelf.
 pub fn answer_to(alloc: Global, shelf: &mut MemShelf, trace: bool) -> Result<Vec<u8>, Fail> {
     let book = book(alloc)?;
-    match build(alloc, shelf, "conf.rc", &book, trace) {
+    in_words(alloc, build(alloc, shelf, "conf.rc", &book, trace))
+}
+
+/// The answer to a text that isn't on a shelf, over one that holds weights in `w.csv`.
+pub fn answer_to_text(alloc: Global, text: &[u8], weights: &[u8]) -> Result<Vec<u8>, Fail> {
+    if text.len() > 4_194_304 {
+        return Err(Fail::from(Memory));
+    }
+    let mut shelf = MemShelf::new(alloc);
+    shelf.add("w.csv", weights)?;
+    let book = book(alloc)?;
+    in_words(alloc, build_text(alloc, text, &mut shelf, &book, false))
+}
+
+/// The answer of a call in words.
+fn in_words(alloc: Global, answer: Result<System, BuildFault>) -> Result<Vec<u8>, Fail> {
+    match answer {
         Ok(system) => accepted(alloc, &system),
         Err(BuildFault::Refused(refusal)) => refused(alloc, &refusal),
         Err(BuildFault::ReadFault { name }) => unread(alloc, name.bytes()),
