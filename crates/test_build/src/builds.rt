@@ -1,7 +1,13 @@
 //! A file, edits of it, and what comes of each.
 
-use crate::edits::{ALONE, COMPETING, COUPLED, Edit, Edited};
-use crate::shown::{answer_over, answer_to_text};
+ghost use Rattle.std.specs.Prelude.{◌≡◌, pos};
+
+use crate::edits::{COUPLED, Edit, Edited};
+use crate::shown::{answer_over, answer_to_text, book_of};
+use crate::{alone, competing};
+use cpl_base::Text;
+use cpl_entry::{Entry, EntryBook, EntryCall};
+use cpl_formula::Formula;
 use std::alloc::Global;
 use std::process::Abort;
 use std::test::Fail;
@@ -11,11 +17,12 @@ const WEIGHTS: &[u8] = b"1,1,0.5\n8,8,-1\n";
 
 /// Where a piece stands in a text: its place, or the text's length.
 fn place_of(text: &[u8], piece: &[u8]) -> usize {
-    let mut place = 0;
-    while place < text.len() && !text[place..].starts_with(piece) {
-        place += 1;
+    for place in 0..text.len() {
+        if text[place..].starts_with(piece) {
+            return place;
+        }
     }
-    place
+    text.len()
 }
 
 /// A text with one piece put in the place of another, which stands in it.
@@ -41,28 +48,154 @@ pub fn edited(alloc: Global, edits: &[Edit]) -> Result<Vec<u8>, Fail> {
 }
 
 /// Each row has its answer, by the call on a shelf and by that on a text.
-fn expect(rt: &impl Abort, alloc: Global, rows: &[Edited]) -> Result<(), Fail> {
+fn expect(rt: &impl Abort, alloc: Global, book: &EntryBook, rows: &[Edited]) -> Result<(), Fail> {
     for row in rows {
         let (edits, wanted) = row;
         let text = edited(alloc, *edits)?;
-        let found = answer_over(alloc, text.as_slice(), WEIGHTS, false)?;
+        let found = answer_over(alloc, book, text.as_slice(), WEIGHTS, false)?;
         assert_eq!(rt; found.as_slice(), *wanted, "at {edits:?}");
-        let of_text = answer_to_text(alloc, text.as_slice(), WEIGHTS)?;
+        let of_text = answer_to_text(alloc, book, text.as_slice(), WEIGHTS)?;
         assert_eq!(rt; of_text.as_slice(), *wanted, "of the text at {edits:?}");
     }
     Ok(())
 }
 
+/// The rows of `alone::LINES`.
+fn alone_lines(rt: &impl Abort, alloc: Global, book: &EntryBook) -> Result<(), Fail> {
+    expect(rt, alloc, book, alone::LINES)
+}
+
+/// The rows of `alone::HEADS`.
+fn alone_heads(rt: &impl Abort, alloc: Global, book: &EntryBook) -> Result<(), Fail> {
+    expect(rt, alloc, book, alone::HEADS)
+}
+
+/// The rows of `alone::DICTIONARY`.
+fn alone_dictionary(rt: &impl Abort, alloc: Global, book: &EntryBook) -> Result<(), Fail> {
+    expect(rt, alloc, book, alone::DICTIONARY)
+}
+
+/// The rows of `alone::COMPONENTS`.
+fn alone_components(rt: &impl Abort, alloc: Global, book: &EntryBook) -> Result<(), Fail> {
+    expect(rt, alloc, book, alone::COMPONENTS)
+}
+
+/// The rows of `alone::FORMULAS`.
+fn alone_formulas(rt: &impl Abort, alloc: Global, book: &EntryBook) -> Result<(), Fail> {
+    expect(rt, alloc, book, alone::FORMULAS)
+}
+
+/// The rows of `alone::LOOPS`.
+fn alone_loops(rt: &impl Abort, alloc: Global, book: &EntryBook) -> Result<(), Fail> {
+    expect(rt, alloc, book, alone::LOOPS)
+}
+
+/// The rows of `alone::LINKS`.
+fn alone_links(rt: &impl Abort, alloc: Global, book: &EntryBook) -> Result<(), Fail> {
+    expect(rt, alloc, book, alone::LINKS)
+}
+
+/// The rows of `alone::MATCHES`.
+fn alone_matches(rt: &impl Abort, alloc: Global, book: &EntryBook) -> Result<(), Fail> {
+    expect(rt, alloc, book, alone::MATCHES)
+}
+
 #[test]
 fn one_fault(rt: HostRuntime) -> Result<(), Fail> {
     let alloc = rt.alloc();
-    expect(&rt, alloc, ALONE)
+    // A native entry `size` of one input.
+    let call: EntryCall = Box::new(
+        alloc,
+        |_inputs: &[i64]| -> i64
+            ensures { result ≡ pos 0 }
+        { 0 },
+    )?;
+    let entry = Entry::new(Text::of(alloc, b"size")?, 1, Formula::Number(0), call);
+    let book = book_of(alloc, entry)?;
+    alone_lines(&rt, alloc, &book)?;
+    alone_heads(&rt, alloc, &book)?;
+    alone_dictionary(&rt, alloc, &book)?;
+    alone_components(&rt, alloc, &book)?;
+    alone_formulas(&rt, alloc, &book)?;
+    alone_loops(&rt, alloc, &book)?;
+    alone_links(&rt, alloc, &book)?;
+    alone_matches(&rt, alloc, &book)?;
+    Ok(())
+}
+
+/// The rows of `competing::LINES`.
+fn competing_lines(rt: &impl Abort, alloc: Global, book: &EntryBook) -> Result<(), Fail> {
+    expect(rt, alloc, book, competing::LINES)
+}
+
+/// The rows of `competing::HEADS`.
+fn competing_heads(rt: &impl Abort, alloc: Global, book: &EntryBook) -> Result<(), Fail> {
+    expect(rt, alloc, book, competing::HEADS)
+}
+
+/// The rows of `competing::WORDS`.
+fn competing_words(rt: &impl Abort, alloc: Global, book: &EntryBook) -> Result<(), Fail> {
+    expect(rt, alloc, book, competing::WORDS)
+}
+
+/// The rows of `competing::FIELDS`.
+fn competing_fields(rt: &impl Abort, alloc: Global, book: &EntryBook) -> Result<(), Fail> {
+    expect(rt, alloc, book, competing::FIELDS)
+}
+
+/// The rows of `competing::PHASES`.
+fn competing_phases(rt: &impl Abort, alloc: Global, book: &EntryBook) -> Result<(), Fail> {
+    expect(rt, alloc, book, competing::PHASES)
+}
+
+/// The rows of `competing::RULES`.
+fn competing_rules(rt: &impl Abort, alloc: Global, book: &EntryBook) -> Result<(), Fail> {
+    expect(rt, alloc, book, competing::RULES)
+}
+
+/// The rows of `competing::VALUES`.
+fn competing_values(rt: &impl Abort, alloc: Global, book: &EntryBook) -> Result<(), Fail> {
+    expect(rt, alloc, book, competing::VALUES)
+}
+
+/// The rows of `competing::STEPS`.
+fn competing_steps(rt: &impl Abort, alloc: Global, book: &EntryBook) -> Result<(), Fail> {
+    expect(rt, alloc, book, competing::STEPS)
+}
+
+/// The rows of `competing::SPANS`.
+fn competing_spans(rt: &impl Abort, alloc: Global, book: &EntryBook) -> Result<(), Fail> {
+    expect(rt, alloc, book, competing::SPANS)
+}
+
+/// The rows of `competing::SIZES`.
+fn competing_sizes(rt: &impl Abort, alloc: Global, book: &EntryBook) -> Result<(), Fail> {
+    expect(rt, alloc, book, competing::SIZES)
 }
 
 #[test]
 fn first_of_two_faults(rt: HostRuntime) -> Result<(), Fail> {
     let alloc = rt.alloc();
-    expect(&rt, alloc, COMPETING)
+    // A native entry `size` of one input.
+    let call: EntryCall = Box::new(
+        alloc,
+        |_inputs: &[i64]| -> i64
+            ensures { result ≡ pos 0 }
+        { 0 },
+    )?;
+    let entry = Entry::new(Text::of(alloc, b"size")?, 1, Formula::Number(0), call);
+    let book = book_of(alloc, entry)?;
+    competing_lines(&rt, alloc, &book)?;
+    competing_heads(&rt, alloc, &book)?;
+    competing_words(&rt, alloc, &book)?;
+    competing_fields(&rt, alloc, &book)?;
+    competing_phases(&rt, alloc, &book)?;
+    competing_rules(&rt, alloc, &book)?;
+    competing_values(&rt, alloc, &book)?;
+    competing_steps(&rt, alloc, &book)?;
+    competing_spans(&rt, alloc, &book)?;
+    competing_sizes(&rt, alloc, &book)?;
+    Ok(())
 }
 
 /// Weights, and what is answered to the file with them.
@@ -84,8 +217,17 @@ const WEIGHED: &[(&[u8], &[u8])] = &[
 #[test]
 fn records(rt: HostRuntime) -> Result<(), Fail> {
     let alloc = rt.alloc();
+    // A native entry `size` of one input.
+    let call: EntryCall = Box::new(
+        alloc,
+        |_inputs: &[i64]| -> i64
+            ensures { result ≡ pos 0 }
+        { 0 },
+    )?;
+    let entry = Entry::new(Text::of(alloc, b"size")?, 1, Formula::Number(0), call);
+    let book = book_of(alloc, entry)?;
     for (weights, wanted) in WEIGHED {
-        let found = answer_over(alloc, COUPLED, *weights, false)?;
+        let found = answer_over(alloc, &book, COUPLED, *weights, false)?;
         assert_eq!(rt; found.as_slice(), *wanted, "at {weights:?}");
     }
     Ok(())
@@ -126,9 +268,18 @@ const WEIGHED_EDITS: &[(&[Edit], &[u8], &[u8])] = &[
 #[test]
 fn records_beside_other_faults(rt: HostRuntime) -> Result<(), Fail> {
     let alloc = rt.alloc();
+    // A native entry `size` of one input.
+    let call: EntryCall = Box::new(
+        alloc,
+        |_inputs: &[i64]| -> i64
+            ensures { result ≡ pos 0 }
+        { 0 },
+    )?;
+    let entry = Entry::new(Text::of(alloc, b"size")?, 1, Formula::Number(0), call);
+    let book = book_of(alloc, entry)?;
     for (edits, weights, wanted) in WEIGHED_EDITS {
         let text = edited(alloc, *edits)?;
-        let found = answer_over(alloc, text.as_slice(), *weights, false)?;
+        let found = answer_over(alloc, &book, text.as_slice(), *weights, false)?;
         assert_eq!(rt; found.as_slice(), *wanted, "at {edits:?}");
     }
     Ok(())

@@ -3,7 +3,11 @@
 #![tactic(auto)]
 
 #[cfg(test)]
+mod alone;
+#[cfg(test)]
 mod builds;
+#[cfg(test)]
+mod competing;
 #[cfg(test)]
 mod edits;
 #[cfg(test)]

@@ -1,9 +1,13 @@
 //! Limits: lengths of files, records of all files of weights together, routes, and rows of a trace.
 
+ghost use Rattle.std.specs.Prelude.{◌≡◌, pos};
+
 use crate::builds::edited;
 use crate::edits::{COUPLED, Edit};
-use crate::shown::{expect_answer, expect_over};
-use cpl_base::{MemShelf, write_number};
+use crate::shown::{book_of, expect_answer, expect_over};
+use cpl_base::{MemShelf, Text, write_number};
+use cpl_entry::{Entry, EntryCall};
+use cpl_formula::Formula;
 use std::alloc::Global;
 use std::process::Abort;
 use std::test::Fail;
@@ -12,7 +16,7 @@ use std::test::Fail;
 fn lengthened(alloc: Global, text: &[u8], length: usize) -> Result<Vec<u8>, Fail> {
     let mut out = Vec::with_capacity(alloc, length)?;
     out.extend_from_slice(text)?;
-    while out.len() < length {
+    for _ in text.len()..length {
         out.push(b' ')?;
     }
     Ok(out)
@@ -22,6 +26,15 @@ fn lengthened(alloc: Global, text: &[u8], length: usize) -> Result<Vec<u8>, Fail
 #[test]
 fn long_files(rt: HostRuntime) -> Result<(), Fail> {
     let alloc = rt.alloc();
+    // A native entry `size` of one input.
+    let call: EntryCall = Box::new(
+        alloc,
+        |_inputs: &[i64]| -> i64
+            ensures { result ≡ pos 0 }
+        { 0 },
+    )?;
+    let entry = Entry::new(Text::of(alloc, b"size")?, 1, Formula::Number(0), call);
+    let book = book_of(alloc, entry)?;
     let full = lengthened(alloc, COUPLED, 4_194_304)?;
     expect_over(
         &rt,
@@ -47,6 +60,15 @@ fn long_files(rt: HostRuntime) -> Result<(), Fail> {
 #[test]
 fn long_weights(rt: HostRuntime) -> Result<(), Fail> {
     let alloc = rt.alloc();
+    // A native entry `size` of one input.
+    let call: EntryCall = Box::new(
+        alloc,
+        |_inputs: &[i64]| -> i64
+            ensures { result ≡ pos 0 }
+        { 0 },
+    )?;
+    let entry = Entry::new(Text::of(alloc, b"size")?, 1, Formula::Number(0), call);
+    let book = book_of(alloc, entry)?;
     let full = lengthened(alloc, b"1,1,1\n1,2,", 67_108_864)?;
     expect_over(
         &rt,
@@ -105,6 +127,15 @@ C -> A :remapMethod=weights:weightFile=w.csv\n\
 #[test]
 fn records_of_all_files(rt: HostRuntime) -> Result<(), Fail> {
     let alloc = rt.alloc();
+    // A native entry `size` of one input.
+    let call: EntryCall = Box::new(
+        alloc,
+        |_inputs: &[i64]| -> i64
+            ensures { result ≡ pos 0 }
+        { 0 },
+    )?;
+    let entry = Entry::new(Text::of(alloc, b"size")?, 1, Formula::Number(0), call);
+    let book = book_of(alloc, entry)?;
     let mut full = Vec::from_slice(alloc, FOUR)?;
     full.extend_from_slice(b"@\n::\n")?;
     let mut longer = Vec::from_slice(alloc, FOUR)?;
@@ -114,7 +145,14 @@ fn records_of_all_files(rt: HostRuntime) -> Result<(), Fail> {
     shelf.add("w.csv", weights.as_slice())?;
     shelf.add("v.csv", b"x\n")?;
     shelf.add("conf.rc", full.as_slice())?;
-    expect_answer(&rt, alloc, &mut shelf, false, b"accepted operations 7")?;
+    expect_answer(
+        &rt,
+        alloc,
+        &book,
+        &mut shelf,
+        false,
+        b"accepted operations 7",
+    )?;
     shelf.add("conf.rc", longer.as_slice())?;
     expect_answer(
         &rt,
@@ -174,6 +212,15 @@ fn put_numbered(out: &mut Vec<u8>, before: &[u8], number: u32, behind: &[u8]) ->
 #[test]
 fn numbers_of_routes(rt: HostRuntime) -> Result<(), Fail> {
     let alloc = rt.alloc();
+    // A native entry `size` of one input.
+    let call: EntryCall = Box::new(
+        alloc,
+        |_inputs: &[i64]| -> i64
+            ensures { result ≡ pos 0 }
+        { 0 },
+    )?;
+    let entry = Entry::new(Text::of(alloc, b"size")?, 1, Formula::Number(0), call);
+    let book = book_of(alloc, entry)?;
     let eight = wide_halos(alloc, 8)?;
     expect_over(
         &rt,
@@ -199,6 +246,15 @@ fn numbers_of_routes(rt: HostRuntime) -> Result<(), Fail> {
 #[test]
 fn rows_of_traces(rt: HostRuntime) -> Result<(), Fail> {
     let alloc = rt.alloc();
+    // A native entry `size` of one input.
+    let call: EntryCall = Box::new(
+        alloc,
+        |_inputs: &[i64]| -> i64
+            ensures { result ≡ pos 0 }
+        { 0 },
+    )?;
+    let entry = Entry::new(Text::of(alloc, b"size")?, 1, Formula::Number(0), call);
+    let book = book_of(alloc, entry)?;
     let last: &[Edit] = &[(
         b"stopTime: 2000-01-01T03:00:00",
         b"stopTime: 2014-12-14T08:00:00",

@@ -1,45 +1,44 @@
 //! The answer to a file in words: how many operations it has, the refusal, or the file that couldn't be read.
 
-ghost use Rattle.std.specs.Prelude.{◌≡◌, pos};
-
-use cpl_base::{MemShelf, Memory, Text, write_number};
+use cpl_base::{MemShelf, Memory, write_number};
 use cpl_build::{BuildFault, build, build_text};
-use cpl_entry::{Entry, EntryBook, EntryCall};
-use cpl_formula::Formula;
+use cpl_entry::{Entry, EntryBook};
 use cpl_report::{Refusal, refusal_text};
 use cpl_script::System;
 use std::alloc::Global;
 use std::process::Abort;
 use std::test::Fail;
 
-/// A book of one native entry, `size`, of one input.
-pub fn book(alloc: Global) -> Result<EntryBook, Fail> {
-    let call: EntryCall = Box::new(
-        alloc,
-        |_inputs: &[i64]| -> i64
-            ensures { result ≡ pos 0 }
-        { 0 },
-    )?;
+/// A book of one native entry.
+pub fn book_of(alloc: Global, entry: Entry) -> Result<EntryBook, Fail> {
     let mut entries = Vec::new(alloc);
-    entries.push(Entry::new(Text::of(alloc, b"size")?, 1, Formula::Number(0), call))?;
+    entries.push(entry)?;
     Ok(EntryBook::new(alloc, entries)?)
 }
 
 /// The answer to the file `conf.rc` of a shelf.
-pub fn answer_to(alloc: Global, shelf: &mut MemShelf, trace: bool) -> Result<Vec<u8>, Fail> {
-    let book = book(alloc)?;
-    in_words(alloc, build(alloc, shelf, "conf.rc", &book, trace))
+pub fn answer_to(
+    alloc: Global,
+    book: &EntryBook,
+    shelf: &mut MemShelf,
+    trace: bool,
+) -> Result<Vec<u8>, Fail> {
+    in_words(alloc, build(alloc, shelf, "conf.rc", book, trace))
 }
 
 /// The answer to a text that isn't on a shelf, over one that holds weights in `w.csv`.
-pub fn answer_to_text(alloc: Global, text: &[u8], weights: &[u8]) -> Result<Vec<u8>, Fail> {
+pub fn answer_to_text(
+    alloc: Global,
+    book: &EntryBook,
+    text: &[u8],
+    weights: &[u8],
+) -> Result<Vec<u8>, Fail> {
     if text.len() > 4_194_304 {
         return Err(Fail::from(Memory));
     }
     let mut shelf = MemShelf::new(alloc);
     shelf.add("w.csv", weights)?;
-    let book = book(alloc)?;
-    in_words(alloc, build_text(alloc, text, &mut shelf, &book, false))
+    in_words(alloc, build_text(alloc, text, &mut shelf, book, false))
 }
 
 /// The answer of a call in words.
@@ -55,6 +54,7 @@ fn in_words(alloc: Global, answer: Result<System, BuildFault>) -> Result<Vec<u8>
 /// The answer to this text, over a shelf that holds weights in `w.csv`.
 pub fn answer_over(
     alloc: Global,
+    book: &EntryBook,
     text: &[u8],
     weights: &[u8],
     trace: bool,
@@ -62,18 +62,19 @@ pub fn answer_over(
     let mut shelf = MemShelf::new(alloc);
     shelf.add("conf.rc", text)?;
     shelf.add("w.csv", weights)?;
-    answer_to(alloc, &mut shelf, trace)
+    answer_to(alloc, book, &mut shelf, trace)
 }
 
 /// The answer to the file `conf.rc` of a shelf is this.
 pub fn expect_answer(
     rt: &impl Abort,
     alloc: Global,
+    book: &EntryBook,
     shelf: &mut MemShelf,
     trace: bool,
     wanted: &[u8],
 ) -> Result<(), Fail> {
-    let found = answer_to(alloc, shelf, trace)?;
+    let found = answer_to(alloc, book, shelf, trace)?;
     assert_eq!(rt; found.as_slice(), wanted);
     Ok(())
 }
@@ -82,12 +83,13 @@ pub fn expect_answer(
 pub fn expect_over(
     rt: &impl Abort,
     alloc: Global,
+    book: &EntryBook,
     text: &[u8],
     weights: &[u8],
     trace: bool,
     wanted: &[u8],
 ) -> Result<(), Fail> {
-    let found = answer_over(alloc, text, weights, trace)?;
+    let found = answer_over(alloc, book, text, weights, trace)?;
     assert_eq!(rt; found.as_slice(), wanted);
     Ok(())
 }
