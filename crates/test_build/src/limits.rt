@@ -39,6 +39,7 @@ fn long_files(rt: HostRuntime) -> Result<(), Fail> {
     expect_over(
         &rt,
         alloc,
+        &book,
         full.as_slice(),
         b"",
         false,
@@ -48,6 +49,7 @@ fn long_files(rt: HostRuntime) -> Result<(), Fail> {
     expect_over(
         &rt,
         alloc,
+        &book,
         longer.as_slice(),
         b"",
         false,
@@ -73,6 +75,7 @@ fn long_weights(rt: HostRuntime) -> Result<(), Fail> {
     expect_over(
         &rt,
         alloc,
+        &book,
         COUPLED,
         full.as_slice(),
         false,
@@ -82,6 +85,7 @@ fn long_weights(rt: HostRuntime) -> Result<(), Fail> {
     expect_over(
         &rt,
         alloc,
+        &book,
         COUPLED,
         longer.as_slice(),
         false,
@@ -157,6 +161,7 @@ fn records_of_all_files(rt: HostRuntime) -> Result<(), Fail> {
     expect_answer(
         &rt,
         alloc,
+        &book,
         &mut shelf,
         false,
         b"refused 58 TooManyWeights v.csv 1",
@@ -166,6 +171,7 @@ fn records_of_all_files(rt: HostRuntime) -> Result<(), Fail> {
     expect_answer(
         &rt,
         alloc,
+        &book,
         &mut shelf,
         false,
         b"refused 58 TooManyWeights w.csv 4194305",
@@ -225,6 +231,7 @@ fn numbers_of_routes(rt: HostRuntime) -> Result<(), Fail> {
     expect_over(
         &rt,
         alloc,
+        &book,
         eight.as_slice(),
         b"",
         false,
@@ -234,6 +241,7 @@ fn numbers_of_routes(rt: HostRuntime) -> Result<(), Fail> {
     expect_over(
         &rt,
         alloc,
+        &book,
         nine.as_slice(),
         b"",
         false,
@@ -263,6 +271,7 @@ fn rows_of_traces(rt: HostRuntime) -> Result<(), Fail> {
     expect_over(
         &rt,
         alloc,
+        &book,
         long.as_slice(),
         b"",
         true,
@@ -276,6 +285,7 @@ fn rows_of_traces(rt: HostRuntime) -> Result<(), Fail> {
     expect_over(
         &rt,
         alloc,
+        &book,
         longer.as_slice(),
         b"",
         true,
@@ -284,6 +294,7 @@ fn rows_of_traces(rt: HostRuntime) -> Result<(), Fail> {
     expect_over(
         &rt,
         alloc,
+        &book,
         longer.as_slice(),
         b"",
         false,
