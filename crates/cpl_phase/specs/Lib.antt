@@ -1,0 +1,11 @@
+pub mod Assignments
+pub mod Checks
+pub mod Keeping
+pub mod Kept
+pub mod Merging
+pub mod Phases
+pub mod Puts
+pub mod Refreshed
+pub mod Sites
+pub mod Starts
+pub mod Worlds

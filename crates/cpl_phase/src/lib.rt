@@ -1,0 +1,25 @@
+//! Phases and start rules of a component, carried out over a block of its grid.
+#![tactic(auto)]
+
+mod averaging;
+mod checking;
+mod filling;
+mod keeping;
+mod keeping_all;
+mod kept_checks;
+mod merging;
+mod putting;
+mod refreshing;
+mod sites;
+mod starting;
+mod updating;
+mod working;
+
+pub use averaging::average_all;
+pub use checking::check_ranges;
+pub use filling::assign_all;
+pub use keeping_all::keep_all;
+pub use kept_checks::check_averages;
+pub use sites::{Sites, sites_of};
+pub use starting::{start_all, started_places};
+pub use updating::carry_out;
