@@ -1,17 +1,15 @@
 -- What the averages and the ranges of a phase find amiss over a block.
-use Rattle.std.specs.Prelude.{ℕ, ◌+◌, ◌-◌, ◌*◌, nat_lt, ℤ, List, fold, Option}
+use Rattle.std.specs.Prelude.{ℕ, ◌+◌, ◌-◌, ◌*◌, nat_lt, ℤ, List}
 use Rattle.std.specs.List.{enumerate_from, flat_map}
-use Rattle.std.specs.Option.{option_map}
 use Rattle.cpl_block.specs.Frames.{home_of, value_at}
 use Rattle.cpl_block.specs.declared.frame.Frame.{Frame}
-use Rattle.cpl_comp.specs.RunFaults.{Fault, is_in_range, lesser, unless}
+use Rattle.cpl_comp.specs.RunFaults.{Fault, is_in_range, unless}
 use Rattle.cpl_comp.specs.declared.component.RangeRow.{RangeRow}
 use Rattle.cpl_comp.specs.declared.found.FoundKind.TheVariants.{Average, Range}
 use Rattle.cpl_grid.specs.Parts.{cells_of_part}
 use Rattle.cpl_mediator.specs.Averages.{RunningSums}
 use Rattle.cpl_sweep.specs.Places.{field_at}
 use Rattle.cpl_phase.specs.Kept.{accum_at}
-use Rattle.cpl_marks.specs.declared.fault.PhaseFault.{PhaseFault}
 
 -- running sums of no field, which have no average
 abbrev pub accum_fault : List RunningSums → ℕ × ℕ → List Fault
