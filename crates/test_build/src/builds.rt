@@ -1,6 +1,6 @@
 //! A file, edits of it, and what comes of each.
 
-ghost use Rattle.std.specs.Prelude.{◌≡◌, pos};
+ghost use Rattle.std.specs.Prelude.{◌≡◌, ◌≤◌, length, pos};
 
 use crate::edits::{COUPLED, Edit, Edited};
 use crate::shown::{answer_over, answer_to_text, book_of};
@@ -16,7 +16,9 @@ use std::test::Fail;
 const WEIGHTS: &[u8] = b"1,1,0.5\n8,8,-1\n";
 
 /// Where a piece stands in a text: its place, or the text's length.
-fn place_of(text: &[u8], piece: &[u8]) -> usize {
+fn place_of(text: &[u8], piece: &[u8]) -> usize
+    ensures { result ≤ length text.now }
+{
     for place in 0..text.len() {
         if text[place..].starts_with(piece) {
             return place;
