@@ -32,7 +32,8 @@ AreAssigned scene book rows fields others = AreAssignedTo (length rows) scene bo
 -- the first so many of other fields have the values of merges
 abbrev pub AreMergedTo : ℕ → Frame → List MergeRow → (fields others : List (List ℤ)) → Type 0
 AreMergedTo count frame rows fields others =
-    (j : ℕ) (row : MergeRow) → j < count → j < length rows → IsSwept frame (merge_step frame (slice_index_or rows j row).terms fields) (field_at others j)
+    (j : ℕ) (row : MergeRow) → j < count → j < length rows
+    → IsSwept frame (merge_step frame (slice_index_or rows j row).terms fields) (field_at others j)
 
 -- the first of other fields have the values of all
 abbrev pub AreMerged : Frame → List MergeRow → (fields others : List (List ℤ)) → Type 0

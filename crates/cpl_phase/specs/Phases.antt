@@ -37,12 +37,14 @@ pub record IsPhaseOn (scene : Scene) (book : List NativeEntry) (phase : Phase) :
   pub averages_once : AllPairs (λ a b. a ≢ b) phase.averages
 
 -- The fields of a block, and the running sums, are those of the whole component after a phase.
-pub record IsAfter (scene : Scene) (reading : Reading) (world : List FieldWorld) (phase : Phase) (news : List (List ℤ)) (running : List RunningSums) : Type 0 where
+pub record IsAfter (scene : Scene) (reading : Reading) (world : List FieldWorld) (phase : Phase)
+    (news : List (List ℤ)) (running : List RunningSums) : Type 0 where
   pub fields : HoldFields scene.frame scene.fields (fields_after reading world phase) news
   pub kept : StandForKept scene.frame scene.fields (fields_after reading world phase) running
 
 -- Other fields have the values that a phase writes: means, values of rules and merges.
-pub record AreNews (frame : Frame) (reading : Reading) (world : List FieldWorld) (phase : Phase) (averaged assigned merged : List (List ℤ)) : Type 0 where
+pub record AreNews (frame : Frame) (reading : Reading) (world : List FieldWorld) (phase : Phase)
+    (averaged assigned merged : List (List ℤ)) : Type 0 where
   pub averages : AreWritten frame (map (average_write reading.layout world) phase.averages) averaged
   pub sets : AreWritten frame (map (set_write reading) phase.sets) assigned
   pub merges : AreWritten frame (map (merge_write reading) phase.merges) merged

@@ -34,7 +34,8 @@ pub fn check_ranges(
     ensures value { noted_fault found.new ≡ least_fault (noted_fault found.old) (block_faults frame.now fields.now rows.now) }
     // Those of the whole component at the block's cells.
     ensures world { (count : ℕ) (world : List FieldWorld) → HoldFields frame.now count world fields.now → All (λ row. row.field < count) rows.now
-        → noted_fault found.new ≡ least_fault (noted_fault found.old) (flat_map (cell_faults world rows.now) (cells_of_part frame.now.grid frame.now.part)) }
+        → noted_fault found.new ≡ least_fault (noted_fault found.old)
+        (flat_map (cell_faults world rows.now) (cells_of_part frame.now.grid frame.now.part)) }
 {
     check_sites(frame, sites, fields, rows, found);
 }

@@ -67,7 +67,8 @@ pub(crate) fn average(
     ensures sums { length accum.new.sums ≡ length accum.old.sums }
 {
     frame_laws(frame);
-    if accum.count() == 0 {
+    let nothing = accum.count() == 0;
+    if nothing {
         copy(field, out);
         return;
     }

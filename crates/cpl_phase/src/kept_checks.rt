@@ -20,7 +20,8 @@ use cpl_mediator::Accum;
 pub fn check_averages(phase: &Phase, accums: &[Accum], found: &mut Option<PhaseFault>)
     requires places { All (λ k. k < length accums.now) phase.now.averages }
     requires count { length phase.now.averages ≤ 64 }
-    ensures { (frame : Frame) (count : ℕ) (world : List FieldWorld) → StandForKept frame count world accums.now → All (λ k. k < count) phase.now.averages
+    ensures { (frame : Frame) (count : ℕ) (world : List FieldWorld)
+        → StandForKept frame count world accums.now → All (λ k. k < count) phase.now.averages
         → noted_fault found.new ≡ least_fault (noted_fault found.old) (average_faults world phase.now) }
 {
     check_places(phase.averages.items(), accums, found);

@@ -13,7 +13,7 @@ returns-in-Ok-clause-written c = λ layout values kept same stands own.
     let accum = c.args.accum.now in
     let are = c.requires.sites in
     let value : ℕ → ℤ = λ s. average_at kept (s - 1) in
-    let some : accum.count ≢ 0 = λ none. c.if-count-eq0.false (c.count.ensures.value ∙ none) in
+    let some : accum.count ≢ 0 = λ none. c.if-nothing.false (c.count-nothing.ensures.value ∙ none) in
     let many : length accum.sums ≡ length (cells_of_part frame.grid frame.part) =
     c.requires.accum.sums some ∙ many-homes frame sites are ∙ ap length are.listed in
     let cells : c.average.new.into ≡ map value sites.cells.items =
