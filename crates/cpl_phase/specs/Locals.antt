@@ -1,5 +1,5 @@
 -- A component on a block: what holds of it, and the world that it stands for.
-use Rattle.std.specs.Prelude.{◌≡◌, ℕ, ◌<◌, ◌≤◌, ◌^◌, Bool, true, List, ◌++◌, length, map, slice_get, Some}
+use Rattle.std.specs.Prelude.{◌≡◌, ℕ, ◌<◌, ◌≤◌, ◌^◌, pos, Bool, true, if◌then◌else◌, List, ◌++◌, length, map, slice_get, Some}
 use Rattle.std.specs.List.{All, flat_map}
 use Rattle.cpl_block.specs.Frames.{IsFrame}
 use Rattle.cpl_block.specs.Rings.{IsRing}
@@ -7,8 +7,11 @@ use Rattle.cpl_block.specs.declared.frame.Frame.{Frame}
 use Rattle.cpl_comp.specs.Components.{IsComponent, Limits}
 use Rattle.cpl_comp.specs.Marks.{marks_of}
 use Rattle.cpl_comp.specs.RunFaults.{Fault, average_faults, cell_faults, first_faults}
-use Rattle.cpl_comp.specs.Turns.{Turn, places_of}
+use Rattle.cpl_comp.specs.Readings.{EntryAnswers}
+use Rattle.cpl_comp.specs.Timing.{Timing}
+use Rattle.cpl_comp.specs.Turns.{Turn, places_of, reading_of, step_ended}
 use Rattle.cpl_comp.specs.Worlds.{CompWorld, FieldWorld, field_at as world_at}
+use Rattle.cpl_comp.specs.Writes.{fields_started}
 use Rattle.cpl_comp.specs.declared.component.Comp.{Comp}
 use Rattle.cpl_comp.specs.declared.component.Phase.{Phase}
 use Rattle.cpl_comp.specs.declared.component.Role.TheVariants.{Export}
@@ -35,6 +38,11 @@ pub record IsAccepted (alarms : ℕ) (book : List NativeEntry) (comp : Comp) : T
   pub is : IsComponent limits comp
   pub alarm_count : limits.alarms ≡ alarms
   pub inputs : limits.inputs ≡ map (λ entry. entry.inputs) book
+
+-- A component that was realised, within whatever limits.
+pub record IsRealised (comp : Comp) : Type 0 where
+  pub limits : Limits
+  pub is : IsComponent limits comp
 
 -- ---- what holds of a component on a block
 
@@ -86,6 +94,15 @@ pub record StandsForComp (comp : Comp) (world : CompWorld) (local : LocalComp) :
   pub values : HoldFields local.frame (length comp.fields) world.fields local.fields
   pub kept : StandForKept local.frame (length comp.fields) world.fields local.accums
   pub shown : (k : ℕ) → k < length comp.fields → field_at local.shown k ≡ block_values local.frame (world_at world.fields k)
+
+-- a component behind an operation of a phase: where the operation is the last of its step, the step is ended
+abbrev pub comp_at_end : Comp → Phase → Turn → CompWorld → CompWorld
+comp_at_end comp phase turn world = if turn.last then step_ended comp phase turn world else world
+
+-- a component after its start rules, without the stamps of its exports
+abbrev pub comp_started : Timing → EntryAnswers → Comp → CompWorld → CompWorld
+comp_started timing entries comp world =
+    record world { fields = fields_started (reading_of timing entries comp world.fields (pos 0) (pos 0)) world.fields comp.fields }
 
 -- What an operation of a phase finds amiss on a block: the clock, stamps and averages of the component, and ranges at the block's cells.
 abbrev pub faults_on : Frame → Comp → Phase → Turn → (ℕ → Bool) → CompWorld → List FieldWorld → List Fault

@@ -2,6 +2,7 @@
 #![tactic(auto)]
 
 mod averaging;
+mod beginning;
 mod checking;
 mod filling;
 mod importing;
@@ -12,6 +13,7 @@ mod local;
 mod merging;
 mod putting;
 mod refreshing;
+mod running;
 mod showing;
 mod sites;
 mod spare;
