@@ -11,6 +11,7 @@ pub mod KeptWritten
 mod PhaseFacts
 mod PutFacts
 mod RefreshedFacts
+mod RunFacts
 mod ShownFacts
 mod SitesFacts
 mod StartFacts

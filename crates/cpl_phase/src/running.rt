@@ -2,28 +2,46 @@
 
 ghost use Rattle.std.specs.Prelude.{◌≡◌, ◌++◌, ◌+◌, ◌^◌, ◌<◌, ◌≤◌, All, List, Some, ℕ, length, slice_get};
 ghost use Rattle.std.specs.List.{flat_map};
+ghost use Rattle.cpl_block.specs.Frames.{places_in};
+ghost use Rattle.cpl_block.specs.Rings.{IsRing};
+ghost use Rattle.cpl_comp.specs.Components.{written_fields};
+ghost use Rattle.cpl_comp.specs.Readings.{Reading};
 ghost use Rattle.cpl_comp.specs.RunFaults.{average_faults, cell_faults, first_faults};
 ghost use Rattle.cpl_comp.specs.Turns.{comp_after_run, fields_after_run};
-ghost use Rattle.cpl_comp.specs.Worlds.{CompWorld, FieldWorld};
+ghost use Rattle.cpl_comp.specs.Worlds.{CompWorld, FieldWorld, field_value};
 ghost use Rattle.cpl_comp.specs.declared.component.Phase.{Phase as Stage};
 ghost use Rattle.cpl_entry.specs.Books.{entries_of};
 ghost use Rattle.cpl_grid.specs.Parts.{cells_of_part};
 ghost use Rattle.cpl_marks.specs.Faults.{least_fault, noted_fault};
 ghost use Rattle.cpl_marks.specs.Plans.{is_connected};
 ghost use Rattle.cpl_marks.specs.Turns.{IsTurn, turn_of};
+ghost use Rattle.cpl_phase.specs.Assignments.{HaveRoom};
+ghost use Rattle.cpl_phase.specs.Kept.{AreAccums, StandForKept, accum_at};
 ghost use Rattle.cpl_phase.specs.Locals.{IsAccepted, IsAged, IsLocal, IsRealised, IsYoung, StandsForComp, comp_at_end, faults_on};
+ghost use Rattle.cpl_phase.specs.Phases.{IsAfter, IsPhaseOn};
+ghost use Rattle.cpl_phase.specs.Refreshed.{AreOnBlock};
+ghost use Rattle.cpl_phase.specs.Rooms.{further_fields};
+ghost use Rattle.cpl_phase.specs.Shown.{AreShownFor};
+ghost use Rattle.cpl_phase.specs.Sites.{AreSites};
 ghost use Rattle.cpl_phase.specs.Worlds.{HaveArrived, HoldFields};
-ghost use Rattle.cpl_rule.specs.Assigned.{answers_of};
-ghost use Rattle.cpl_rule.specs.Moments.{IsTimed, timing_of};
+ghost use Rattle.cpl_rule.specs.Assigned.{IsAsRoomy, IsScene, answers_of};
+ghost use Rattle.cpl_rule.specs.Inputs.{AreFields, HaveNumbers};
+ghost use Rattle.cpl_rule.specs.Moments.{IsAt, IsTimed, timing_of};
 
 use crate::checking::check_ranges;
 use crate::kept_checks::check_averages;
-use crate::local::LocalComp;
+use crate::local::{Area, LocalComp};
 use crate::showing::show_written;
+use crate::sites::Sites;
+use crate::spare::Spare;
 use crate::updating::carry_out;
-use cpl_comp::Comp;
+use cpl_base::Many;
+use cpl_block::Frame;
+use cpl_comp::{Comp, Phase};
 use cpl_entry::EntryBook;
+use cpl_field::Field;
 use cpl_marks::{PhaseFault, Turn, check_marks, end_step};
+use cpl_mediator::Accum;
 use cpl_rule::{Scene, Times, moment_at};
 
 impl LocalComp {
@@ -117,24 +135,21 @@ impl LocalComp {
             fields: comp.fields.items().len() as u16,
             moment: moment_at(times, turn.at, turn.substep),
         };
-        carry_out(
+        carry_phase(
             &scene,
             book,
-            &self.area.ring,
-            &self.area.sites,
+            &self.area,
             stage,
-            self.fields.as_mut_slice(),
-            self.accums.as_mut_slice(),
-            self.spare.fields.as_mut_slice(),
-            self.spare.cells.values_mut(),
-            &mut self.spare.room,
+            &mut self.fields,
+            &mut self.accums,
+            &mut self.spare,
         );
-        show_written(
+        show_phase(
             &self.frame,
             &self.area.sites,
             stage,
-            self.fields.items(),
-            self.shown.as_mut_slice(),
+            &self.fields,
+            &mut self.shown,
         );
     }
 
@@ -180,4 +195,78 @@ impl LocalComp {
             &mut self.marks,
         );
     }
+}
+
+/// A phase, carried out over the fields of a component on a block.
+fn carry_phase(
+    scene: &Scene,
+    book: &EntryBook,
+    area: &Area,
+    stage: &Phase,
+    fields: &mut Many<Field>,
+    accums: &mut Many<Accum>,
+    spare: &mut Spare,
+)
+    requires scene { IsScene scene.now }
+    requires ring { IsRing scene.now.frame area.now.ring }
+    requires sites { AreSites scene.now.frame area.now.sites }
+    requires phase { IsPhaseOn scene.now (entries_of book.now) stage.now }
+    requires room { HaveRoom spare.old.room stage.now.sets }
+    requires add_room { HaveRoom spare.old.room stage.now.adds }
+    requires fields { AreFields scene.now.frame scene.now.fields fields.old }
+    requires numbers { HaveNumbers scene.now.frame scene.now.fields fields.old }
+    requires accums { AreAccums (length area.now.sites.homes.items) scene.now.fields accums.old }
+    requires sums { All (λ row. length (accum_at accums.old row.field).sums ≡ length area.now.sites.homes.items) stage.now.adds }
+    requires counts { All (λ row. (accum_at accums.old row.field).count < 2 ^ 24) stage.now.adds }
+    requires count { further_fields stage.now ≤ length spare.old.fields }
+    requires others { AreOnBlock scene.now.frame (length spare.old.fields) spare.old.fields }
+    requires cells { length spare.old.cells ≡ length area.now.sites.homes.items }
+    ensures after { (reading : Reading) (world : List FieldWorld)
+        → IsAt scene.now.moment scene.now.frame.grid reading → reading.entries ≡ answers_of (entries_of book.now)
+        → reading.value ≡ field_value world
+        → HoldFields scene.now.frame scene.now.fields world fields.old
+        → HaveArrived scene.now.frame stage.now.halo.fields world fields.old
+        → StandForKept scene.now.frame scene.now.fields world accums.old
+        → IsAfter scene.now reading world stage.now fields.new accums.new }
+    ensures fields { AreFields scene.now.frame scene.now.fields fields.new }
+    ensures numbers { HaveNumbers scene.now.frame scene.now.fields fields.new }
+    ensures accums { AreAccums (length area.now.sites.homes.items) scene.now.fields accums.new }
+    ensures sums { (k : ℕ) → length (accum_at accums.new k).sums ≡ length (accum_at accums.old k).sums }
+    ensures aged { (bound : ℕ) → All (λ accum. accum.count ≤ bound) accums.old → All (λ accum. accum.count ≤ bound + 1) accums.new }
+    ensures others { AreOnBlock scene.now.frame (length spare.old.fields) spare.new.fields }
+    ensures cells { length spare.new.cells ≡ length spare.old.cells }
+    ensures room { IsAsRoomy spare.old.room spare.new.room }
+{
+    carry_out(
+        scene,
+        book,
+        &area.ring,
+        &area.sites,
+        stage,
+        fields.as_mut_slice(),
+        accums.as_mut_slice(),
+        spare.fields.as_mut_slice(),
+        spare.cells.values_mut(),
+        &mut spare.room,
+    );
+}
+
+/// Lines up the values of the fields that a phase gives new values.
+fn show_phase(
+    frame: &Frame,
+    sites: &Sites,
+    stage: &Phase,
+    fields: &Many<Field>,
+    shown: &mut Many<Field>,
+)
+    requires sites { AreSites frame.now sites.now }
+    requires fields { All (λ field. length field ≡ places_in frame.now) fields.now }
+    requires shown { All (λ values. length values ≡ length sites.now.homes.items) shown.old }
+    requires few { length shown.old ≤ length fields.now }
+    requires sets { All (λ row. row.field < length shown.old) stage.now.sets }
+    requires merges { All (λ row. row.field < length shown.old) stage.now.merges }
+    requires averages { All (λ k. k < length shown.old) stage.now.averages }
+    ensures { AreShownFor frame.now (length sites.now.homes.items) (written_fields stage.now) fields.now shown.old shown.new }
+{
+    show_written(frame, sites, stage, fields.items(), shown.as_mut_slice());
 }
