@@ -1,0 +1,4 @@
+//! The serial engine: a system carried out in place, one operation after another.
+#![tactic(auto)]
+
+mod stepping;
