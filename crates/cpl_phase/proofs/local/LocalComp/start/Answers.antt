@@ -28,7 +28,8 @@ start_all-requires-clause-halo g c =
     let comp = c.args.comp.now in
     let accepted = c.requires.accepted in
     subst (λ (halo : List ℕ). All (λ k. k < length c.items.result.now) halo) (sym c.items-2.ensures)
-    (subst (λ (described : List Field). All (λ k. k < length described) comp.start_halo.fields) (sym c.items.ensures) (start-halo-below accepted.limits comp accepted.is))
+    (subst (λ (described : List Field). All (λ k. k < length described) comp.start_halo.fields) (sym c.items.ensures)
+    (start-halo-below accepted.limits comp accepted.is))
 
 pub start_all-requires-clause-rules : goal.start_all-requires-clause-rules
 start_all-requires-clause-rules g c =
@@ -46,9 +47,9 @@ pub start_all-requires-clause-haloed : goal.start_all-requires-clause-haloed
 start_all-requires-clause-haloed g c =
     let comp = c.args.comp.now in
     let accepted = c.requires.accepted in
-    subst (λ (described : List Field). All (λ field. ForSome field.start (λ rule. All (IsHaloed c.items-2.result.now) (arguments_of rule))) described) (sym c.items-3.ensures)
-    (subst (λ (halo : List ℕ). All (λ field. ForSome field.start (λ rule. All (IsHaloed halo) (arguments_of rule))) comp.fields) (sym c.items-2.ensures)
-    (starts-haloed accepted.limits comp accepted.is))
+    let AreHaloed : List ℕ → Field → Type 0 = λ halo field. ForSome field.start (λ rule. All (IsHaloed halo) (arguments_of rule)) in
+    subst (All (AreHaloed c.items-2.result.now)) (sym c.items-3.ensures)
+    (subst (λ (halo : List ℕ). All (AreHaloed halo) comp.fields) (sym c.items-2.ensures) (starts-haloed accepted.limits comp accepted.is))
 
 pub start_all-requires-clause-room : goal.start_all-requires-clause-room
 start_all-requires-clause-room g c =
@@ -63,13 +64,15 @@ pub show_places-requires-clause-fields : goal.show_places-requires-clause-fields
 show_places-requires-clause-fields g c =
     let local = c.args.self.now in
     let left = left-fields local.fields c.start_all.new.fields (c.start_all.auto.fields ∙ ap length c.as_mut_slice.ensures.value) in
-    subst (λ (fields : List (List ℤ)). All (λ field. length field ≡ places_in local.frame) fields) (sym (c.items-6.ensures ∙ left)) c.start_all.ensures.fields.places
+    subst (λ (fields : List (List ℤ)). All (λ field. length field ≡ places_in local.frame) fields) (sym (c.items-6.ensures ∙ left))
+    c.start_all.ensures.fields.places
 
 pub show_places-requires-clause-shown : goal.show_places-requires-clause-shown
 show_places-requires-clause-shown g c =
     let local = c.args.self.now in
     subst (λ (shown : List (List ℤ)). All (λ values. length values ≡ length local.area.sites.homes.items) shown) (sym c.as_mut_slice-3.ensures.value)
-    (subst (λ n. All (λ values. length values ≡ n) local.shown) (sym (cells-homes c.args.comp.now local c.requires.local)) c.requires.local.shown_cells)
+    (subst (λ n. All (λ values. length values ≡ n) local.shown) (sym (cells-homes c.args.comp.now local c.requires.local))
+    c.requires.local.shown_cells)
 
 pub show_places-requires-clause-places : goal.show_places-requires-clause-places
 show_places-requires-clause-places g c =
@@ -111,23 +114,35 @@ returns-clause-after g c = λ world stands arrived.
     let cells = length local.area.sites.homes.items in
     let number : length c.items.result.now ≡ length comp.fields = ap length c.items.ensures in
     let Holds : List (List ℤ) → Type 0 = HoldFields frame (length c.items.result.now) world.fields in
-    let hold : Holds c.as_mut_slice.result.now = subst Holds (sym c.as_mut_slice.ensures.value) (subst (λ n. HoldFields frame n world.fields local.fields) (sym number) stands.values) in
+    let hold : Holds c.as_mut_slice.result.now =
+    subst Holds (sym c.as_mut_slice.ensures.value) (subst (λ n. HoldFields frame n world.fields local.fields) (sym number) stands.values) in
     let Arrives : List (List ℤ) → Type 0 = HaveArrived frame c.items-2.result.now world.fields in
-    let come : Arrives c.as_mut_slice.result.now = subst Arrives (sym c.as_mut_slice.ensures.value) (subst (λ (halo : List ℕ). HaveArrived frame halo world.fields local.fields) (sym c.items-2.ensures) arrived) in
+    let come : Arrives c.as_mut_slice.result.now =
+    subst Arrives (sym c.as_mut_slice.ensures.value)
+    (subst (λ (halo : List ℕ). HaveArrived frame halo world.fields local.fields) (sym c.items-2.ensures) arrived) in
     let made = c.start_all.ensures.written reading world.fields
-    (record { timing = ap timing_of (sym c.moment_at.ensures.times); at = sym c.moment_at.ensures.at; dt = sym c.moment_at.ensures.dt; over = sym c.requires.local.over })
+    (record {
+      timing = ap timing_of (sym c.moment_at.ensures.times);
+      at = sym c.moment_at.ensures.at;
+      dt = sym c.moment_at.ensures.dt;
+      over = sym c.requires.local.over;
+    })
     refl refl hold come in
-    let After : List (List ℤ) → Type 0 = HoldFields frame (length comp.fields) (fields_started reading world.fields comp.fields) in
+    let after = fields_started reading world.fields comp.fields in
+    let After : List (List ℤ) → Type 0 = HoldFields frame (length comp.fields) after in
     let held : After fields =
-    subst (λ n. HoldFields frame n (fields_started reading world.fields comp.fields) fields) number
-    (subst (λ (described : List Field). HoldFields frame (length c.items.result.now) (fields_started reading world.fields described) fields) c.items-3.ensures made) in
+    subst (λ n. HoldFields frame n after fields) number
+    (subst (λ (described : List Field). HoldFields frame (length c.items.result.now) (fields_started reading world.fields described) fields)
+    c.items-3.ensures made) in
     let left = left-fields local.fields fields (c.start_all.auto.fields ∙ ap length c.as_mut_slice.ensures.value) in
     let long : length shown ≡ length local.shown = c.show_places.ensures.number ∙ ap length c.as_mut_slice-3.ensures.value in
     let lined : AreShownFor frame cells local.started fields local.shown shown =
     subst (λ (places : List ℕ). AreShownFor frame cells places fields local.shown shown) c.items-5.ensures
     (subst (λ (now : List (List ℤ)). AreShownFor frame cells c.items-5.result.now now local.shown shown) (c.items-6.ensures ∙ left)
-    (subst (λ (old : List (List ℤ)). AreShownFor frame cells c.items-5.result.now c.items-6.result.now old shown) c.as_mut_slice-3.ensures.value c.show_places.ensures)) in
-    let Lined : List (List ℤ) → Type 0 = λ now. (k : ℕ) → k < length comp.fields → field_at now k ≡ block_values frame (world_at (fields_started reading world.fields comp.fields) k) in
+    (subst (λ (old : List (List ℤ)). AreShownFor frame cells c.items-5.result.now c.items-6.result.now old shown)
+    c.as_mut_slice-3.ensures.value c.show_places.ensures)) in
+    let Lined : List (List ℤ) → Type 0 = λ now.
+    (k : ℕ) → k < length comp.fields → field_at now k ≡ block_values frame (world_at after k) in
     record {
       marks = marks-started timing entries comp world local.marks stands.marks;
       values = subst After (sym left) held;
