@@ -2,6 +2,7 @@ mod AcceptedFacts
 mod AccumCheckFacts
 mod AssignmentFacts
 mod AverageFacts
+mod BeginFacts
 mod CheckFacts
 mod HeldFacts
 mod ImportFacts
