@@ -2,7 +2,7 @@
 #![tactic(auto)]
 
 mod averaging;
-// mod beginning;
+mod beginning;
 mod checking;
 mod filling;
 mod importing;
