@@ -21,7 +21,7 @@ use Rattle.cpl_comp.specs.Components.{IsComponent, Limits}
 use Rattle.cpl_comp.specs.Held.{AreAnswers}
 use Rattle.cpl_comp.specs.Readings.{EntryAnswers, entry_answer}
 use Rattle.cpl_comp.specs.Timing.{Timing}
-use Rattle.cpl_comp.specs.Turns.{Turn, comp_after_run, fields_after_run}
+use Rattle.cpl_comp.specs.Turns.{Turn, comp_after_init, comp_after_run, fields_after_run}
 use Rattle.cpl_comp.specs.RunFaults.{Fault, average_faults, cell_faults, first_faults, range_faults, run_faults}
 use Rattle.cpl_comp.specs.Worlds.{CompWorld, FieldWorld, active_cells, changed}
 use Rattle.cpl_comp.specs.declared.component.Comp.{Comp}
@@ -42,7 +42,7 @@ use Rattle.cpl_rule.specs.Moments.{IsTimed, timing_of}
 use Rattle.cpl_rule.specs.declared.moment.Times.{Times}
 use Rattle.cpl_script.specs.Couplings.{Coupling, is_connected}
 use Rattle.cpl_script.specs.Held.{IsHeldWorld}
-use Rattle.cpl_script.specs.SerialRun.{phase_faults, world_after_run}
+use Rattle.cpl_script.specs.SerialRun.{phase_faults, world_after_init, world_after_run}
 use Rattle.cpl_script.specs.Sound.{AreComponents, CallsEntries, IsTiming}
 use Rattle.cpl_script.specs.Transfers.{World, comp_at, no_comp}
 use Rattle.cpl_sequence.specs.Bounds.{IsRunWithin}
@@ -239,3 +239,9 @@ module _ (coupling : Coupling) (entries : EntryAnswers) (world : World) (c p : �
   faults-run =
       ap (λ (o : Option Comp). option_map_or (λ comp. option_map_or (λ phase. run_faults comp phase turn (is_connected coupling c) (comp_at world c) (fields_after_run coupling.timing entries comp phase turn (comp_at world c).fields)) (slice_get comp.phases p) []) o []) there
       ∙ ap (λ (o : Option Phase). option_map_or (λ phase. run_faults comp phase turn (is_connected coupling c) (comp_at world c) (fields_after_run coupling.timing entries comp phase turn (comp_at world c).fields)) o []) stage_there
+
+-- the world after an initialisation is changed at the component
+pub world-init : (coupling : Coupling) (entries : EntryAnswers) (world : World) (c : ℕ) (comp : Comp) → slice_get coupling.comps c ≡ Some comp
+    → world_after_init coupling entries world c ≡ changed (comp_after_init coupling.timing entries comp) c world
+world-init coupling entries world c comp there =
+    ap (λ (o : Option Comp). option_map_or (λ comp. changed (comp_after_init coupling.timing entries comp) c world) o world) there

@@ -1,5 +1,5 @@
 use Rattle.std.proofs.Common.{◌∙◌, ap, get_or, refl, subst, sym}
-use Rattle.std.specs.Prelude.{◌≡◌, ◌+◌, ◌<◌, All, List, Some, map, ℕ, length, slice_get}
+use Rattle.std.specs.Prelude.{◌≡◌, ◌+◌, ◌<◌, All, List, Some, map, ℕ, length, slice_set}
 use Rattle.std.proofs.lemmas.Option.{slice_get_read, slice_get_within}
 use Rattle.cpl_block.specs.Laws.{IsAlone}
 use Rattle.cpl_comp.specs.Timing.{Timing}
@@ -16,7 +16,8 @@ use Rattle.cpl_rule.specs.Assigned.{answers_of}
 use Rattle.cpl_script.proofs.WorldFacts.{held-after}
 use Rattle.cpl_script.specs.Couplings.{is_connected}
 use Rattle.cpl_script.specs.Held.{IsHeldWorld}
-use Rattle.cpl_script.specs.Transfers.{comp_at}
+use Rattle.cpl_script.specs.SerialRun.{world_after_run}
+use Rattle.cpl_script.specs.Transfers.{World, comp_at}
 use Rattle.cpl_sequence.specs.declared.op.Op.TheVariants.{Run}
 use Rattle.cpl_serial.proofs.EngineFacts.{aged-set, answers-by, back-set, components-by, faults-alone, faults-run, lent-member, member-there, nothing-far, place-below, same-member, stand-set, whole-set, world-run}
 use Rattle.cpl_serial.specs.Engines.{AreWhole, StandForWorld}
@@ -111,10 +112,11 @@ returns-clause-after g c = λ world stand.
     let held = held-after coupling entries inputs (components-by coupling inputs c.facts.ensures.inputs c.facts.ensures.comps c.requires.calls)
         (answers-by book c.signs.ensures.book.over) world
         (Run place c.args.phase turn.time turn.step turn.at turn.substep turn.first turn.last) stand.held in
-    let set = stand-set coupling locals place comp new there c.requires.whole world (comp_after_run coupling.timing entries comp stage.member turn) stand
+    let stood = stand-set coupling locals place comp new there c.requires.whole world (comp_after_run coupling.timing entries comp stage.member turn) stand
         (subst (IsHeldWorld coupling.comps) is_world held) here in
-    subst (λ xs. StandForWorld coupling _ xs) (sym (back-set locals slots place new c.as_mut_slice-slots.ensures.value))
-    (subst (λ w. StandForWorld coupling w _) (sym is_world) set)
+    let after_world = world_after_run coupling entries world place c.args.phase turn in
+    subst (λ (xs : List LocalComp). StandForWorld coupling after_world xs) (sym (back-set locals slots place new c.as_mut_slice-slots.ensures.value))
+    (subst (λ (w : World). StandForWorld coupling w (slice_set locals place new)) (sym is_world) stood)
 
 pub returns-clause-found : goal.returns-clause-found
 returns-clause-found g c = λ world stand.
