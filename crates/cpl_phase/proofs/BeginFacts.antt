@@ -7,6 +7,7 @@ use Rattle.std.proofs.lemmas.List.Folds.{list_any_at}
 use Rattle.std.proofs.lemmas.List.FromFn.{get_or-range_with_len, length-range_with_len}
 use Rattle.std.specs.List.{All, cons_option, enumerate_from, filter_map, range_with_len}
 use Rattle.std.specs.Option.{ForSome}
+use Rattle.cpl_base.specs.Numbers.{IsValue}
 use Rattle.cpl_block.specs.declared.frame.Frame.{Frame}
 use Rattle.cpl_comp.proofs.ChangeFacts.{changed-other, fold-keeps_all, fold-seen_same, length-changed}
 use Rattle.cpl_comp.proofs.HeldFacts.{All-unmap}
@@ -207,10 +208,10 @@ module _ (comp : Comp) (local : LocalComp) (is : IsLocal comp local) where
   -- with other values in its fields
   local-with : (fields shown others : List (List ℤ)) (room : Room)
       → AreFields local.frame (length comp.fields) fields → HaveNumbers local.frame (length comp.fields) fields
-      → length shown ≡ length comp.fields → All (λ values. length values ≡ cell_count local.frame) shown
+      → length shown ≡ length comp.fields → All (λ values. length values ≡ cell_count local.frame) shown → All (All IsValue) shown
       → AreOnBlock local.frame (length local.spare.fields) others → IsAsRoomy local.spare.room room
       → IsLocal comp (record local { fields = fields; shown = shown; spare = record local.spare { fields = others; room = room } })
-  local-with fields shown others room are numbers long cells on roomy = record {
+  local-with fields shown others room are numbers long cells within on roomy = record {
     frame = is.frame;
     over = is.over;
     demand = is.demand;
@@ -230,6 +231,7 @@ module _ (comp : Comp) (local : LocalComp) (is : IsLocal comp local) where
     sums = is.sums;
     shown = long;
     shown_cells = cells;
+    shown_values = within;
     spare = spare-with others room on roomy;
   }
 
@@ -237,17 +239,17 @@ module _ (comp : Comp) (local : LocalComp) (is : IsLocal comp local) where
   pub local-left : (fields shown others fields_left shown_left others_left : List (List ℤ)) (room : Room)
       → fields ≡ fields_left → shown ≡ shown_left → others ≡ others_left
       → AreFields local.frame (length comp.fields) fields_left → HaveNumbers local.frame (length comp.fields) fields_left
-      → length shown_left ≡ length comp.fields → All (λ values. length values ≡ cell_count local.frame) shown_left
+      → length shown_left ≡ length comp.fields → All (λ values. length values ≡ cell_count local.frame) shown_left → All (All IsValue) shown_left
       → AreOnBlock local.frame (length local.spare.fields) others_left → IsAsRoomy local.spare.room room
       → IsLocal comp (record local { fields = fields; shown = shown; spare = record local.spare { fields = others; room = room } })
-  local-left fields shown others fields_left shown_left others_left room same_fields same_shown same_others are numbers long cells on roomy =
+  local-left fields shown others fields_left shown_left others_left room same_fields same_shown same_others are numbers long cells within on roomy =
       subst (λ (other : LocalComp). IsLocal comp other)
       (λ i. record local {
         fields = sym same_fields i;
         shown = sym same_shown i;
         spare = record local.spare { fields = sym same_others i; room = room };
       })
-      (local-with fields_left shown_left others_left room are numbers long cells on roomy)
+      (local-with fields_left shown_left others_left room are numbers long cells within on roomy)
 
 -- the cells of a block are as many as their places
 pub cells-homes : (comp : Comp) (local : LocalComp) → IsLocal comp local → length local.area.sites.homes.items ≡ cell_count local.frame

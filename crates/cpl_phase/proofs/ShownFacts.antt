@@ -1,12 +1,14 @@
 -- Values lined up, one field more.
 use Rattle.std.proofs.Common.{◌≡◌, ℕ, zero, suc, ◌+◌, ◌<◌, Bool, true, false, ◌||◌, ◌==◌, List, [], ◌∷◌, ◌++◌, length, map, set, get_or, take, ℤ, refl, sym, ap, subst, ◌∙◌, arith, inl, inr}
-use Rattle.std.proofs.lemmas.Bool.{cases_Bool, eq-eqb, eqb-true, false≢true}
-use Rattle.std.proofs.lemmas.List.{get_or-set_other, get_or-set_same, length-map, length-set, map-append, take_more}
-use Rattle.std.proofs.lemmas.List.Elements.{All-set}
+use Rattle.std.proofs.lemmas.Bool.{cases_Bool, cases_lt, eq-eqb, eqb-true, false≢true}
+use Rattle.std.proofs.lemmas.List.{get_or-set_other, get_or_past, get_or-set_same, length-map, length-set, map-append, take_more}
+use Rattle.std.proofs.lemmas.List.Elements.{All-map, All-set}
 use Rattle.std.proofs.lemmas.List.Folds.{list_any-append}
 use Rattle.std.specs.List.{All, list_any}
-use Rattle.cpl_block.specs.Frames.{home_of, values_in}
+use Rattle.cpl_base.specs.Numbers.{IsValue}
+use Rattle.cpl_block.specs.Frames.{home_of, value_at, values_in}
 use Rattle.cpl_block.specs.declared.frame.Frame.{Frame}
+use Rattle.cpl_comp.proofs.HeldFacts.{get_or-within, none-within}
 use Rattle.cpl_comp.specs.Turns.{is_among}
 use Rattle.cpl_grid.specs.Parts.{cells_of_part}
 use Rattle.cpl_sweep.specs.Places.{field_at}
@@ -37,12 +39,25 @@ among-one j k among = sym (eqb-true k j (sym (or-none (k == j)) ∙ among))
 one-among : (j k : ℕ) → j ≡ k → is_among (k ∷ []) j ≡ true
 one-among j k same = or-none (k == j) ∙ eq-eqb k j (sym same)
 
+-- a field of values, or none
+field-within : (fields : List (List ℤ)) (k : ℕ) → All (All IsValue) fields → All IsValue (field_at fields k)
+field-within fields k each = elim (cases_lt k (length fields)) [
+    | inl inside ↦ each k [] inside
+    | inr past ↦ subst (All IsValue) (sym (get_or_past fields k [] past)) none-within
+  ]
+
+-- its values at the cells of a block are values
+values-within : (frame : Frame) (field : List ℤ) → All IsValue field → All IsValue (values_in frame field)
+values-within frame field each =
+    All-map IsValue (λ s. value_at field (home_of frame s)) (cells_of_part frame.grid frame.part) (λ i d below. get_or-within field each (home_of frame (get_or (cells_of_part frame.grid frame.part) i d)))
+
 module _ (frame : Frame) (cells : ℕ) (fields : List (List ℤ)) where
   -- nothing is lined up anew
   pub shown-none : (shown : List (List ℤ)) → All (λ values. length values ≡ cells) shown → AreShownFor frame cells [] fields shown shown
   shown-none shown count = record {
     number = refl;
     count = count;
+    values = λ fields_are old_are. old_are;
     fresh = λ k below among. absurd (cc);
     kept = λ k among. refl;
   }
@@ -53,6 +68,7 @@ module _ (frame : Frame) (cells : ℕ) (fields : List (List ℤ)) where
   shown-both first second old mid new one two = record {
     number = two.number ∙ one.number;
     count = two.count;
+    values = λ fields_are old_are. two.values fields_are (one.values fields_are old_are);
     fresh = λ k below among. elim (cases_Bool (is_among second k)) [
       | inl yes_ ↦ two.fresh k (subst (λ n. k < n) (sym one.number) below) yes_
       | inr none ↦
@@ -71,6 +87,7 @@ module _ (frame : Frame) (cells : ℕ) (fields : List (List ℤ)) where
   shown-one k old values below long is count = record {
     number = length-set old k values;
     count = All-set (λ values. length values ≡ cells) old k values long count;
+    values = λ fields_are old_are. All-set (All IsValue) old k values (subst (All IsValue) (sym is) (values-within frame (field_at fields k) (field-within fields k fields_are))) old_are;
     fresh = λ j there among.
         let same : j ≡ k = among-one j k among in
         subst (λ n. field_at (set old k values) n ≡ values_in frame (field_at fields n)) (sym same) (get_or-set_same old k values [] below ∙ is);

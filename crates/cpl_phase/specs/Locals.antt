@@ -1,6 +1,7 @@
 -- A component on a block: what holds of it, and the world that it stands for.
 use Rattle.std.specs.Prelude.{◌≡◌, ℕ, ◌<◌, ◌≤◌, ◌^◌, pos, Bool, true, if◌then◌else◌, List, ◌++◌, length, map, slice_get, Some}
 use Rattle.std.specs.List.{All, flat_map}
+use Rattle.cpl_base.specs.Numbers.{IsValue}
 use Rattle.cpl_block.specs.Frames.{IsFrame}
 use Rattle.cpl_block.specs.Rings.{IsRing}
 use Rattle.cpl_block.specs.declared.frame.Frame.{Frame}
@@ -73,6 +74,7 @@ pub record IsLocal (comp : Comp) (local : LocalComp) : Type 0 where
   pub sums : (k : ℕ) → k < length comp.fields → is_kept_by comp k ≡ true → length (accum_at local.accums k).sums ≡ cell_count local.frame
   pub shown : length local.shown ≡ length comp.fields
   pub shown_cells : All (λ values. length values ≡ cell_count local.frame) local.shown
+  pub shown_values : All (All IsValue) local.shown
   pub spare : IsSpareFor comp local.frame local.demand local.spare
 
 -- At most so many operations were carried out: so many runs ended, and so many values were kept for any field.

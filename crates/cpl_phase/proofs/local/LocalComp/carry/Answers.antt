@@ -145,6 +145,7 @@ returns-clause-local g c =
       sums = λ k below kept. c.carry_phase.ensures.sums k ∙ local.sums k below kept;
       shown = c.show_phase.ensures.number ∙ local.shown;
       shown_cells = subst (λ n. All (λ (values : List ℤ). length values ≡ n) c.show_phase.new.shown) (sym homes) c.show_phase.ensures.count;
+      shown_values = c.show_phase.ensures.values c.carry_phase.ensures.fields.values local.shown_values;
       spare = record {
         fields = subst (λ n. AreOnBlock frame n c.carry_phase.new.spare.fields) (sym more) c.carry_phase.ensures.others;
         phases = subst (λ n. All (λ (phase : Phase). further_fields phase ≤ n) comp.phases) (sym more) local.spare.phases;

@@ -1,6 +1,7 @@
 use Rattle.std.proofs.Common.{◌≡◌, ◌∙◌, ◌<◌, ℕ, List, ℤ, ap, length, pos, refl, subst, sym}
 use Rattle.std.specs.List.{All}
 use Rattle.std.specs.Option.{ForSome}
+use Rattle.cpl_base.specs.Numbers.{IsValue}
 use Rattle.cpl_block.specs.Frames.{places_in}
 use Rattle.cpl_comp.specs.Readings.{Reading}
 use Rattle.cpl_comp.specs.Turns.{reading_of}
@@ -98,6 +99,9 @@ returns-clause-local g c =
     (subst (λ n. HaveNumbers local.frame n fields) count c.start_all.ensures.numbers)
     (long ∙ c.requires.local.shown)
     (subst (λ n. All (λ values. length values ≡ n) shown) (cells-homes comp local c.requires.local) c.show_places.ensures.count)
+    (c.show_places.ensures.values
+    (subst (All (All IsValue)) (sym (c.items-6.ensures ∙ left-fields local.fields fields (c.start_all.auto.fields ∙ ap length c.as_mut_slice.ensures.value))) c.start_all.ensures.fields.values)
+    (subst (All (All IsValue)) (sym c.as_mut_slice-3.ensures.value) c.requires.local.shown_values))
     (subst (λ n. AreOnBlock local.frame n others) (ap length c.as_mut_slice-2.ensures.value) c.start_all.ensures.others)
     c.start_all.ensures.room
 
