@@ -16,7 +16,7 @@ use Rattle.cpl_block.specs.Laws.{IsAlone}
 use Rattle.cpl_block.specs.declared.frame.Frame.{Frame}
 use Rattle.cpl_calendar.specs.Calendar.{InTime}
 use Rattle.cpl_clock.specs.Alarm.{IsRegular}
-use Rattle.cpl_comp.proofs.ChangeFacts.{changed-here, changed-other}
+use Rattle.cpl_comp.proofs.ChangeFacts.{changed-here, changed-other, length-changed}
 use Rattle.cpl_comp.specs.Components.{IsComponent, Limits}
 use Rattle.cpl_comp.specs.Held.{AreAnswers}
 use Rattle.cpl_comp.specs.Readings.{EntryAnswers, entry_answer}
@@ -46,7 +46,7 @@ use Rattle.cpl_script.specs.SerialRun.{phase_faults, world_after_init, world_aft
 use Rattle.cpl_script.specs.Sound.{AreComponents, CallsEntries, IsTiming}
 use Rattle.cpl_script.specs.Transfers.{World, comp_at, no_comp}
 use Rattle.cpl_sequence.specs.Bounds.{IsRunWithin}
-use Rattle.cpl_serial.specs.Engines.{AreWhole, IsWhole, StandForWorld}
+use Rattle.cpl_serial.specs.Engines.{AreWhole, IsWhole, StandEach, StandForWorld}
 
 -- ---- members
 
@@ -90,15 +90,22 @@ module _ (coupling : Coupling) (locals : List LocalComp) (c : ℕ) (comp : Comp)
     each = each-set (IsWhole coupling) coupling.comps locals c comp new there place-below is (λ j q l off q_there l_there. whole.each j q l q_there l_there);
   }
 
-  -- and stand for the world with that component changed
-  pub stand-set : (world : World) (change : CompWorld → CompWorld) → StandForWorld coupling world locals → IsHeldWorld coupling.comps (changed change c world)
-      → StandsForComp comp (change (comp_at world c)) new → StandForWorld coupling (changed change c world) (set locals c new)
-  stand-set world change stand held here = record {
-    held = held;
+  -- and each stands for its component of the world with that one changed
+  pub stand-each : (world : World) (change : CompWorld → CompWorld) → StandEach coupling world locals
+      → StandsForComp comp (change (comp_at world c)) new → StandEach coupling (changed change c world) (set locals c new)
+  stand-each world change stand here = record {
+    size = length-changed change c world ∙ stand.size;
     each = each-set (λ j q l. StandsForComp q (comp_at (changed change c world) j) l) coupling.comps locals c comp new there place-below
-        (subst (λ (w : CompWorld). StandsForComp comp w new) (sym (changed-here change c world no_comp (subst (λ n. c < n) (sym stand.held.size) (slice_get_within coupling.comps c comp there)))) here)
+        (subst (λ (w : CompWorld). StandsForComp comp w new) (sym (changed-here change c world no_comp (subst (λ n. c < n) (sym stand.size) (slice_get_within coupling.comps c comp there)))) here)
         (λ j q l off q_there l_there. subst (λ (w : CompWorld). StandsForComp q w l) (sym (changed-other change c j world no_comp off)) (stand.each j q l q_there l_there));
   }
+
+  -- and all stand for that world
+  pub stand-set : (world : World) (change : CompWorld → CompWorld) → StandForWorld coupling world locals → IsHeldWorld coupling.comps (changed change c world)
+      → StandsForComp comp (change (comp_at world c)) new → StandForWorld coupling (changed change c world) (set locals c new)
+  stand-set world change stand held here =
+      let stood = stand-each world change (record { size = stand.held.size; each = stand.each }) here in
+      record { held = held; each = stood.each }
 
 -- ---- lent lists
 
@@ -210,7 +217,7 @@ pub nothing-far : (frame : Frame) (halo : List ℕ) (world : List FieldWorld) (f
 nothing-far frame halo world fields alone = λ j below place inside far. absurd (false≢true (sym (alone.far place) ∙ far))
 
 -- the cells of a block that is alone are all cells
-cells-alone : (frame : Frame) (layout : Layout) → IsAlone frame → frame.grid ≡ layout.grid → cells_of_part frame.grid frame.part ≡ active_cells layout
+pub cells-alone : (frame : Frame) (layout : Layout) → IsAlone frame → frame.grid ≡ layout.grid → cells_of_part frame.grid frame.part ≡ active_cells layout
 unfolding active_cells
 cells-alone frame layout alone over = alone.cells ∙ ap indices over
 

@@ -1,1 +1,3 @@
+mod EndFacts
 mod EngineFacts
+mod ImageFacts

@@ -3,6 +3,8 @@ use Rattle.std.specs.Prelude.{◌≡◌, ◌<◌, All, List, map, ℕ, length, s
 use Rattle.std.proofs.lemmas.List.Elements.{All-set}
 use Rattle.std.proofs.lemmas.Option.{slice_get_read}
 use Rattle.cpl_block.specs.Laws.{IsAlone}
+use Rattle.cpl_block.specs.declared.frame.Frame.{Frame}
+use Rattle.cpl_grid.specs.Parts.{whole_part}
 use Rattle.cpl_comp.specs.Timing.{Timing}
 use Rattle.cpl_comp.specs.Turns.{comp_after_init}
 use Rattle.cpl_entry.specs.Books.{entries_of}
@@ -48,6 +50,7 @@ returns-clause-whole g c =
     subst (AreWhole coupling) (sym (back-set locals slots place new c.as_mut_slice-slots.ensures.value))
     (whole-set coupling locals place comp new there c.requires.whole (record {
       is = c.init.ensures.local;
+      whole = subst (λ (frame : Frame). frame.part ≡ whole_part frame.grid) (sym c.init.ensures.frame) is.whole;
       alone = subst IsAlone (sym c.init.ensures.frame) is.alone;
       connected = λ k. ap (λ connected. is_held_connected connected k) c.init.ensures.connected ∙ is.connected k;
     }))

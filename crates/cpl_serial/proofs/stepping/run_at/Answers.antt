@@ -2,6 +2,8 @@ use Rattle.std.proofs.Common.{◌∙◌, ap, get_or, refl, subst, sym}
 use Rattle.std.specs.Prelude.{◌≡◌, ◌+◌, ◌<◌, All, List, Some, map, ℕ, length, slice_set}
 use Rattle.std.proofs.lemmas.Option.{slice_get_read, slice_get_within}
 use Rattle.cpl_block.specs.Laws.{IsAlone}
+use Rattle.cpl_block.specs.declared.frame.Frame.{Frame}
+use Rattle.cpl_grid.specs.Parts.{whole_part}
 use Rattle.cpl_comp.specs.Timing.{Timing}
 use Rattle.cpl_comp.specs.Turns.{comp_after_run, fields_after_run}
 use Rattle.cpl_comp.specs.declared.component.Comp.{Comp}
@@ -67,6 +69,7 @@ returns-clause-whole g c =
     subst (AreWhole coupling) (sym (back-set locals slots place new c.as_mut_slice-slots.ensures.value))
     (whole-set coupling locals place comp new there c.requires.whole (record {
       is = c.run.ensures.local;
+      whole = subst (λ (frame : Frame). frame.part ≡ whole_part frame.grid) (sym c.run.ensures.frame) is.whole;
       alone = subst IsAlone (sym c.run.ensures.frame) is.alone;
       connected = λ k. ap (λ connected. is_held_connected connected k) c.run.ensures.connected ∙ is.connected k;
     }))
