@@ -9,6 +9,7 @@ mod ImportFacts
 mod KeepingFacts
 mod KeptFacts
 pub mod KeptWritten
+mod OpenFacts
 mod PhaseFacts
 mod PutFacts
 mod RefreshedFacts

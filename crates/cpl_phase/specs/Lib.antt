@@ -5,6 +5,7 @@ pub mod Keeping
 pub mod Kept
 pub mod Locals
 pub mod Merging
+pub mod Opened
 pub mod Phases
 pub mod Puts
 pub mod Refreshed
