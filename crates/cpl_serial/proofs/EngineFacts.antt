@@ -9,6 +9,7 @@ use Rattle.std.proofs.lemmas.Bool.Decides.{eqb_tells}
 use Rattle.std.proofs.lemmas.Int.{ints}
 use Rattle.std.proofs.Math.Seq.{take-append_seam}
 use Rattle.std.proofs.lemmas.List.{get_or-set_other, get_or-set_same, length-set}
+use Rattle.std.proofs.lemmas.List.FromFn.{length-range_with_len}
 use Rattle.std.proofs.lemmas.List.Elements.{All-head, All-set, All-tail}
 use Rattle.std.proofs.lemmas.Option.{get_or_from_slice_get, slice_get-get_or, slice_get_within}
 use Rattle.cpl_base.specs.Numbers.{IsValue}
@@ -16,6 +17,7 @@ use Rattle.cpl_block.specs.Laws.{IsAlone}
 use Rattle.cpl_block.specs.declared.frame.Frame.{Frame}
 use Rattle.cpl_calendar.specs.Calendar.{InTime}
 use Rattle.cpl_clock.specs.Alarm.{IsRegular}
+use Rattle.cpl_comp.proofs.CellFacts.{active_cells-again}
 use Rattle.cpl_comp.proofs.ChangeFacts.{changed-here, changed-other, length-changed}
 use Rattle.cpl_comp.specs.Components.{IsComponent, Limits}
 use Rattle.cpl_comp.specs.Held.{AreAnswers}
@@ -23,13 +25,13 @@ use Rattle.cpl_comp.specs.Readings.{EntryAnswers, entry_answer}
 use Rattle.cpl_comp.specs.Timing.{Timing}
 use Rattle.cpl_comp.specs.Turns.{Turn, comp_after_init, comp_after_run, fields_after_run}
 use Rattle.cpl_comp.specs.RunFaults.{Fault, average_faults, cell_faults, first_faults, range_faults, run_faults}
-use Rattle.cpl_comp.specs.Worlds.{CompWorld, FieldWorld, active_cells, changed}
+use Rattle.cpl_comp.specs.Worlds.{CompWorld, FieldWorld, active_cells, cell_value, changed}
 use Rattle.cpl_comp.specs.declared.component.Comp.{Comp}
 use Rattle.cpl_comp.specs.declared.component.Phase.{Phase}
 use Rattle.cpl_entry.specs.Entries.{NativeEntry}
 use Rattle.cpl_formula.proofs.ValuesFacts.{value_of-within}
 use Rattle.cpl_formula.specs.Tree.{is_over}
-use Rattle.cpl_grid.specs.Grid.{indices}
+use Rattle.cpl_grid.specs.Grid.{cells_in, indices}
 use Rattle.cpl_grid.specs.Owners.{Layout}
 use Rattle.cpl_grid.specs.Parts.{cells_of_part}
 use Rattle.cpl_marks.specs.Turns.{IsTurn}
@@ -40,10 +42,10 @@ use Rattle.cpl_phase.specs.declared.local.LocalComp.{LocalComp}
 use Rattle.cpl_rule.specs.Assigned.{answers_of}
 use Rattle.cpl_rule.specs.Moments.{IsTimed, timing_of}
 use Rattle.cpl_rule.specs.declared.moment.Times.{Times}
-use Rattle.cpl_script.specs.Couplings.{Coupling, is_connected}
+use Rattle.cpl_script.specs.Couplings.{Coupling, is_connected, no_layout}
 use Rattle.cpl_script.specs.Held.{IsHeldWorld}
 use Rattle.cpl_script.specs.SerialRun.{phase_faults, world_after_init, world_after_run}
-use Rattle.cpl_script.specs.Sound.{AreComponents, CallsEntries, IsTiming}
+use Rattle.cpl_script.specs.Sound.{AreComponents, CallsEntries, IsTiming, cells_at}
 use Rattle.cpl_script.specs.Transfers.{World, comp_at, no_comp}
 use Rattle.cpl_sequence.specs.Bounds.{IsRunWithin}
 use Rattle.cpl_serial.specs.Engines.{AreWhole, IsWhole, StandEach, StandForWorld}
@@ -252,3 +254,18 @@ pub world-init : (coupling : Coupling) (entries : EntryAnswers) (world : World) 
     → world_after_init coupling entries world c ≡ changed (comp_after_init coupling.timing entries comp) c world
 world-init coupling entries world c comp there =
     ap (λ (o : Option Comp). option_map_or (λ comp. changed (comp_after_init coupling.timing entries comp) c world) o world) there
+
+-- ---- cells
+
+-- how many cells the component of a place has
+pub cells-there : (comps : List Comp) (c : ℕ) (comp : Comp) → slice_get comps c ≡ Some comp → cells_at comps c ≡ cells_in comp.decomp.grid
+cells-there comps c comp there = ap (λ (o : Option Comp). cells_in (option_map_or (λ comp. comp.decomp) o no_layout).grid) there
+
+-- a block that is alone has so many
+pub cells-count : (frame : Frame) (comp : Comp) → IsAlone frame → frame.grid ≡ comp.decomp.grid → length (cells_of_part frame.grid frame.part) ≡ cells_in comp.decomp.grid
+cells-count frame comp alone over = ap length alone.cells ∙ length-range_with_len 1 (cells_in frame.grid) ∙ ap cells_in over
+
+-- a value for each cell is what it has at the cells of a block that is alone
+pub alone-again : (frame : Frame) (comp : Comp) (values : List ℤ) → IsAlone frame → frame.grid ≡ comp.decomp.grid → length values ≡ cells_in comp.decomp.grid
+    → map (cell_value values) (cells_of_part frame.grid frame.part) ≡ values
+alone-again frame comp values alone over count = ap (map (cell_value values)) (cells-alone frame comp.decomp alone over) ∙ active_cells-again comp.decomp values count

@@ -2,6 +2,7 @@ use Rattle.std.proofs.Common.{◌≡◌, ◌∙◌, ◌≤◌, Bool, List, ℤ, 
 use Rattle.std.proofs.lemmas.List.{length-replicate}
 use Rattle.std.proofs.lemmas.List.Elements.{All-replicate}
 use Rattle.std.specs.List.{All}
+use Rattle.cpl_base.specs.Numbers.{IsValue}
 use Rattle.cpl_comp.specs.Marks.{CompMarks}
 use Rattle.cpl_comp.specs.Worlds.{first_comp}
 use Rattle.cpl_comp.specs.declared.component.Field.{Field}
@@ -26,6 +27,7 @@ returns-clause-local c =
     let Summed : List RunningSums → Type 0 = AreAccums cells count in
     let Long : List ℤ → Type 0 = λ xs. length xs ≡ cells in
     let AllLong : List (List ℤ) → Type 0 = All Long in
+    let zero : IsValue (pos 0) = omega arith in
     let fewest : CanBeMet c.near_demand-demand.result = search rules in
     record {
       frame = made.frame;
@@ -47,6 +49,7 @@ returns-clause-local c =
       accums = subst Summed (sym values.accums) (first-accums comp cells);
       sums = λ k below kept. ap (λ (xs : List RunningSums). length (accum_at xs k).sums) values.accums ∙ first-sums comp cells k below kept;
       shown = ap (λ (xs : List (List ℤ)). length xs) values.shown ∙ length-replicate count (replicate cells (pos 0));
+      shown_values = subst (All (All IsValue)) (sym values.shown) (All-replicate (All IsValue) count (replicate cells (pos 0)) (All-replicate IsValue cells (pos 0) zero));
       shown_cells = subst AllLong (sym values.shown) (All-replicate Long count (replicate cells (pos 0)) (length-replicate cells (pos 0)));
       spare = c.in_ok-spare.ensures;
     }
