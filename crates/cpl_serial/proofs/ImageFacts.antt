@@ -14,6 +14,7 @@ use Rattle.cpl_serial.specs.Images.{IsImagedTo, gathered_value, row_value}
 
 -- ---- a row
 
+-- a number from 1 on, as a place from 0 on
 in_place : (s n : ℕ) → 1 ≤ s → s ≤ n → s - 1 < n
 in_place s n from to = omega arith
 
@@ -26,6 +27,7 @@ gathered-values row source is values =
 
 -- ---- one cell more
 
+-- a list of one value
 one-value : (v : ℤ) → IsValue v → All IsValue (v ∷ [])
 one-value v is zero d below = is
 one-value v is (suc i) d below = absurd (omega (arith, below))

@@ -1,3 +1,9 @@
+mod ChangedFacts
+mod CodeFacts
 mod EndFacts
 mod EngineFacts
 mod ImageFacts
+mod LinkFacts
+mod OpFacts
+mod OutcomeFacts
+mod WholeFacts

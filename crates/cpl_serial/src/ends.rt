@@ -1,7 +1,7 @@
 //! The end of a field, over a block that is the whole grid.
 
-ghost use Rattle.std.specs.Prelude.{◌≡◌, Option, ℤ, length, map};
-ghost use Rattle.cpl_block.specs.Frames.{IsFrame, places_in, values_in};
+ghost use Rattle.std.specs.Prelude.{◌≡◌, length};
+ghost use Rattle.cpl_block.specs.Frames.{IsFrame, places_in};
 ghost use Rattle.cpl_comp.specs.Worlds.{FieldWorld};
 ghost use Rattle.cpl_grid.specs.Owners.{Layout};
 ghost use Rattle.cpl_grid.specs.Parts.{whole_part};

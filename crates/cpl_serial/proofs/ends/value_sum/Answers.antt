@@ -11,4 +11,5 @@ pub returns : goal.returns
 returns c = λ layout world same holds.
     let sum_fits : SFits w128 c.sum.result = search rules in
     let lent = c.values.ensures in
-    sum-active c.args.frame.now c.args.field.now layout world _ c.whole_laws.ensures same holds (to_z-of_z w128 c.sum.result sum_fits ∙ c.sum.ensures ∙ ap (λ field. block.total_of (values_in c.args.frame.now field)) lent)
+    sum-active c.args.frame.now c.args.field.now layout world _ c.whole_laws.ensures same holds
+    (to_z-of_z w128 c.sum.result sum_fits ∙ c.sum.ensures ∙ ap (λ field. block.total_of (values_in c.args.frame.now field)) lent)
