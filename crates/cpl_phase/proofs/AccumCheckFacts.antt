@@ -14,12 +14,14 @@ use Rattle.cpl_phase.specs.Keeping.{StandsForBlock}
 use Rattle.cpl_phase.specs.Kept.{StandForKept, accum_at}
 
 -- there are fields in the sums where something is kept
-same-kept : (frame : Frame) (running : RunningSums) (kept : List (List ℤ)) → StandsForBlock frame running kept → nat_lt 0 running.count ≡ has_kept kept
+same-kept : (frame : Frame) (running : RunningSums) (kept : List (List ℤ)) → StandsForBlock frame running kept
+    → nat_lt 0 running.count ≡ has_kept kept
 same-kept frame running [] stands = ap (nat_lt 0) stands.count
 same-kept frame running (first ∷ more) stands = lt-ltb 0 running.count (omega (arith, stands.count))
 
 -- the faults are the same
-pub same-averages : (frame : Frame) (count : ℕ) (world : List FieldWorld) (accums : List RunningSums) → StandForKept frame count world accums → (n : ℕ) (places : List ℕ) → All (λ k. k < count) places
+pub same-averages : (frame : Frame) (count : ℕ) (world : List FieldWorld) (accums : List RunningSums) → StandForKept frame count world accums
+    → (n : ℕ) (places : List ℕ) → All (λ k. k < count) places
     → flat_map (accum_fault accums) (enumerate_from n places) ≡ flat_map (average_fault world) (enumerate_from n places)
 same-averages frame count world accums kept n [] below = refl
 same-averages frame count world accums kept n (k ∷ places) below =

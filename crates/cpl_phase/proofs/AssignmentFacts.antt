@@ -13,7 +13,8 @@ use Rattle.cpl_rule.specs.Swept.{IsSwept}
 use Rattle.cpl_phase.specs.Assignments.{AreAssignedTo, AreMergedTo}
 use Rattle.cpl_phase.specs.Merging.{merge_step}
 
-pub assigned-more : (scene : Scene) (book : List NativeEntry) (rows : List SetRow) (fields others : List (List ℤ)) (j : ℕ) (out : List ℤ) (row : SetRow) → j < length rows → j < length others
+pub assigned-more : (scene : Scene) (book : List NativeEntry) (rows : List SetRow) (fields others : List (List ℤ)) (j : ℕ) (out : List ℤ)
+    (row : SetRow) → j < length rows → j < length others
     → AreAssignedTo j scene book rows fields others → IsAssigned scene book (get_or rows j row).rule fields out
     → AreAssignedTo (j + 1) scene book rows fields (set others j out)
 assigned-more scene book rows fields others j out row inside there before made = λ i other below within.
@@ -27,7 +28,8 @@ assigned-more scene book rows fields others j out row inside there before made =
       | inr not ↦ subst P (sym (get_or-set_other others j i out [] not)) (before i other (omega arith) within)
     ]
 
-pub merged-more : (frame : Frame) (rows : List MergeRow) (fields others : List (List ℤ)) (j : ℕ) (out : List ℤ) (row : MergeRow) → j < length rows → j < length others
+pub merged-more : (frame : Frame) (rows : List MergeRow) (fields others : List (List ℤ)) (j : ℕ) (out : List ℤ) (row : MergeRow) → j < length rows
+    → j < length others
     → AreMergedTo j frame rows fields others → IsSwept frame (merge_step frame (get_or rows j row).terms fields) out
     → AreMergedTo (j + 1) frame rows fields (set others j out)
 merged-more frame rows fields others j out row inside there before made = λ i other below within.

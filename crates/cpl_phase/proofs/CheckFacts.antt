@@ -29,7 +29,8 @@ module _ (frame : Frame) (count : ℕ) (world : List FieldWorld) (fields : List 
 
   -- the faults at a cell
   same-faults : (s n : ℕ) (rows : List RangeRow) → HasValues s → All (λ row. row.field < count) rows
-      → flat_map (λ numbered. value_fault s (value_at (field_at fields numbered.1.field) (home_of frame s)) numbered) (enumerate_from n rows) ≡ flat_map (range_fault world s) (enumerate_from n rows)
+      → flat_map (λ numbered. value_fault s (value_at (field_at fields numbered.1.field) (home_of frame s)) numbered)
+      (enumerate_from n rows) ≡ flat_map (range_fault world s) (enumerate_from n rows)
   unfolding HasValues
   same-faults s n [] values below = refl
   same-faults s n (row ∷ rows) values below =
@@ -44,5 +45,6 @@ module _ (frame : Frame) (count : ℕ) (world : List FieldWorld) (fields : List 
   same-cells rows (s ∷ cells) below each =
       λ i. same-faults s 0 rows (All-head HasValues s cells each) below i ++ same-cells rows cells below (All-tail HasValues s cells each) i
 
-  pub same-block : (rows : List RangeRow) → All (λ row. row.field < count) rows → block_faults frame fields rows ≡ flat_map (cell_faults world rows) (cells_of_part frame.grid frame.part)
+  pub same-block : (rows : List RangeRow) → All (λ row. row.field < count) rows
+      → block_faults frame fields rows ≡ flat_map (cell_faults world rows) (cells_of_part frame.grid frame.part)
   same-block rows below = same-cells rows (cells_of_part frame.grid frame.part) below have-values

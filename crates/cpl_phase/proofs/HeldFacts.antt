@@ -30,7 +30,8 @@ among-at (k ∷ numbers) n among = elim (cases_Bool (k == n)) [
       record { j = suc later.j; within = (let below = later.within in omega arith); is = later.is }
 ]
 
-module _ (frame : Frame) (count : ℕ) (halo : List ℕ) (world : List FieldWorld) (old new : List (List ℤ)) (laws : IsFraming frame) (filled : AreRefilled frame halo old new) (few : All (λ k. k < count) halo) (hold : HoldFields frame count world old) where
+module _ (frame : Frame) (count : ℕ) (halo : List ℕ) (world : List FieldWorld) (old new : List (List ℤ)) (laws : IsFraming frame)
+    (filled : AreRefilled frame halo old new) (few : All (λ k. k < count) halo) (hold : HoldFields frame count world old) where
   -- own values stay
   pub own-refilled : (k : ℕ) → k < count → IsOwn frame (field_value world k) (field_at new k)
   own-refilled k below = filled.own k (field_value world k) (laws.held (field_value world k) (field_at old k) (hold.values k below))
@@ -48,9 +49,11 @@ module _ (frame : Frame) (count : ℕ) (halo : List ℕ) (world : List FieldWorl
       let at = slice_index halo stands.j in
       let below : at < count = few stands.j 0 stands.within in
       let P : ℕ → Type 0 = λ n. IsRinged frame (field_value world n) (field_at new n) in
-      subst P stands.is (filled.ringed stands.j (field_value world at) stands.within (laws.held (field_value world at) (field_at old at) (hold.values at below)) (arrived stands.j stands.within))
+      subst P stands.is (filled.ringed stands.j (field_value world at) stands.within
+      (laws.held (field_value world at) (field_at old at) (hold.values at below)) (arrived stands.j stands.within))
 
-  pub reading-refilled : (reading : Reading) → reading.value ≡ field_value world → HaveArrived frame halo world old → HaveNumbers frame count new → HoldReading frame count halo reading new
+  pub reading-refilled : (reading : Reading) → reading.value ≡ field_value world → HaveArrived frame halo world old → HaveNumbers frame count new
+      → HoldReading frame count halo reading new
   reading-refilled reading same arrived numbers = record {
     own = λ k below.
         let P : (ℕ → ℕ → ℤ) → Type 0 = λ value. IsOwn frame (value k) (field_at new k) in

@@ -29,9 +29,11 @@ module _ (frame : Frame) (sites : Sites) (are : AreSites frame sites) where
       sym (get_or-map (stands_for frame) sites.homes.items j 0 0 inside) ∙ ap (λ xs. get_or xs j 0) (are.stands ∙ sym are.listed)
 
   -- one value more is at its place
-  pub scattered-more : (value : ℕ → ℤ) (k : ℕ) (cells field : List ℤ) → cells ≡ map value sites.cells.items → k < length sites.homes.items → slice_index sites.homes.items k < length field
+  pub scattered-more : (value : ℕ → ℤ) (k : ℕ) (cells field : List ℤ) → cells ≡ map value sites.cells.items → k < length sites.homes.items
+      → slice_index sites.homes.items k < length field
       → ((j : ℕ) → j < k → value_at field (slice_index sites.homes.items j) ≡ value (slice_index sites.cells.items j))
-      → (j : ℕ) → j < k + 1 → value_at (set field (slice_index sites.homes.items k) (get_or cells k (pos 0))) (slice_index sites.homes.items j) ≡ value (slice_index sites.cells.items j)
+      → (j : ℕ) → j < k + 1 → value_at (set field (slice_index sites.homes.items k) (get_or cells k (pos 0)))
+      (slice_index sites.homes.items j) ≡ value (slice_index sites.cells.items j)
   scattered-more value k cells field is inside there before j below =
       let home = slice_index sites.homes.items k in
       let put = set field home (get_or cells k (pos 0)) in
@@ -47,7 +49,8 @@ module _ (frame : Frame) (sites : Sites) (are : AreSites frame sites) where
         | inr other ↦
             elim (cases_eq j k) [
               | inl at ↦ absurd (other (ap (slice_index sites.homes.items) at))
-              | inr not ↦ get_or-set_other field home (slice_index sites.homes.items j) (get_or cells k (pos 0)) (pos 0) other ∙ before j (omega arith)
+              | inr not ↦ get_or-set_other field home (slice_index sites.homes.items j) (get_or cells k (pos 0)) (pos 0) other
+                  ∙ before j (omega arith)
             ]
       ]
 

@@ -19,10 +19,13 @@ kept_of field = field.kept
 -- what is kept for each is as before
 same-kept_of : (writes : List Write) (world : List FieldWorld) → map kept_of (all_written world writes) ≡ map kept_of world
 same-kept_of writes world =
-    fold-seen_same (map kept_of) written (λ w write. map-changed_same kept_of (λ (field : FieldWorld). record field { values = write.values }) (λ field. refl) write.field w) world writes
+    fold-seen_same (map kept_of) written
+    (λ w write. map-changed_same kept_of (λ (field : FieldWorld). record field { values = write.values }) (λ field. refl) write.field w) world
+    writes
 
 -- running sums that stand for what is kept still do
-pub stand-written : (frame : Frame) (count : ℕ) (writes : List Write) (world : List FieldWorld) (accums : List RunningSums) → StandForKept frame count world accums → StandForKept frame count (all_written world writes) accums
+pub stand-written : (frame : Frame) (count : ℕ) (writes : List Write) (world : List FieldWorld) (accums : List RunningSums)
+    → StandForKept frame count world accums → StandForKept frame count (all_written world writes) accums
 stand-written frame count writes world accums before =
     let after = all_written world writes in
     let same = same-kept_of writes world in
@@ -39,6 +42,7 @@ stand-written frame count writes world accums before =
     }
 
 -- so they do after start rules
-pub stand-started : (frame : Frame) (count : ℕ) (reading : Reading) (described : List Field) (world : List FieldWorld) (accums : List RunningSums) → StandForKept frame count world accums → StandForKept frame count (fields_started reading world described) accums
+pub stand-started : (frame : Frame) (count : ℕ) (reading : Reading) (described : List Field) (world : List FieldWorld) (accums : List RunningSums)
+    → StandForKept frame count world accums → StandForKept frame count (fields_started reading world described) accums
 stand-started frame count reading described world accums before =
     stand-written frame count (filter_map (start_write reading) (enumerate_from 0 described)) world accums before

@@ -1,14 +1,22 @@
+mod AcceptedFacts
 mod AccumCheckFacts
 mod AssignmentFacts
 mod AverageFacts
+mod BeginFacts
 mod CheckFacts
 mod HeldFacts
+mod ImportFacts
 mod KeepingFacts
 mod KeptFacts
 pub mod KeptWritten
+mod ListFacts
+mod OpenFacts
 mod PhaseFacts
 mod PutFacts
 mod RefreshedFacts
+mod RunFacts
+mod ShownFacts
 mod SitesFacts
+mod StampedFacts
 mod StartFacts
 mod WrittenFacts

@@ -27,7 +27,8 @@ abbrev values_of : FieldWorld → List ℤ
 values_of field = field.values
 
 -- fields with the same values are held alike
-hold-same : (frame : Frame) (count : ℕ) (world after : List FieldWorld) (fields : List (List ℤ)) → map values_of after ≡ map values_of world → HoldFields frame count world fields → HoldFields frame count after fields
+hold-same : (frame : Frame) (count : ℕ) (world after : List FieldWorld) (fields : List (List ℤ)) → map values_of after ≡ map values_of world
+    → HoldFields frame count world fields → HoldFields frame count after fields
 hold-same frame count world after fields same hold =
     let many : length after ≡ length world = sym (length-map after values_of) ∙ ap length same ∙ length-map world values_of in
     record {
@@ -36,23 +37,30 @@ hold-same frame count world after fields same hold =
           let inside : k < length world = omega (arith, below, hold.number) in
           let there : k < length after = omega (arith, inside, many) in
           let here : (world_at world k).values ≡ (world_at after k).values =
-          sym (get_or-map values_of world k no_field [] inside) ∙ ap (λ xs. get_or xs k []) (sym same) ∙ get_or-map values_of after k no_field [] there in
+          sym (get_or-map values_of world k no_field [] inside) ∙ ap (λ xs. get_or xs k []) (sym same)
+          ∙ get_or-map values_of after k no_field [] there in
           hold.values k below ∙ ap (λ values. map (cell_value values) (cells_of_part frame.grid frame.part)) here;
     }
 
 -- what is forgotten and kept leaves what is held
-pub hold-kept : (frame : Frame) (count : ℕ) (reading : Reading) (places : List ℕ) (rows : List SetRow) (world : List FieldWorld) (fields : List (List ℤ)) → HoldFields frame count world fields → HoldFields frame count (fold (kept_more reading) (fold emptied world places) rows) fields
+pub hold-kept : (frame : Frame) (count : ℕ) (reading : Reading) (places : List ℕ) (rows : List SetRow) (world : List FieldWorld)
+    (fields : List (List ℤ)) → HoldFields frame count world fields
+    → HoldFields frame count (fold (kept_more reading) (fold emptied world places) rows) fields
 hold-kept frame count reading places rows world fields hold =
     let same_emptied : map values_of (fold emptied world places) ≡ map values_of world =
-    fold-seen_same (map values_of) emptied (λ w k. map-changed_same values_of (λ (field : FieldWorld). record field { kept = [] }) (λ field. refl) k w) world places in
+    fold-seen_same (map values_of) emptied
+    (λ w k. map-changed_same values_of (λ (field : FieldWorld). record field { kept = [] }) (λ field. refl) k w) world places in
     let same_kept : map values_of (fold (kept_more reading) (fold emptied world places) rows) ≡ map values_of (fold emptied world places) =
-    fold-seen_same (map values_of) (kept_more reading) (λ w row. map-changed_same values_of (λ (field : FieldWorld). record field { kept = field.kept ++ rule_values reading row.rule ∷ [] }) (λ field. refl) row.field w) (fold emptied world places) rows in
+    fold-seen_same (map values_of) (kept_more reading)
+    (λ w row. map-changed_same values_of (λ (field : FieldWorld). record field { kept = field.kept ++ rule_values reading row.rule ∷ [] })
+    (λ field. refl) row.field w) (fold emptied world places) rows in
     hold-same frame count world (fold (kept_more reading) (fold emptied world places) rows) fields (same_kept ∙ same_emptied) hold
 
 -- ---- three groups of writes
 
 -- the fields of averages
-pub average-fields : (layout : Layout) (world : List FieldWorld) (places : List ℕ) → map (λ (write : Write). write.field) (map (average_write layout world) places) ≡ places
+pub average-fields : (layout : Layout) (world : List FieldWorld) (places : List ℕ)
+    → map (λ (write : Write). write.field) (map (average_write layout world) places) ≡ places
 average-fields layout world [] = refl
 average-fields layout world (k ∷ places) = ap (λ ks. k ∷ ks) (average-fields layout world places)
 
@@ -70,14 +78,18 @@ pub record IsGroup (frame : Frame) (count : ℕ) (writes : List Write) (targets 
 
 module _ (frame : Frame) (count : ℕ) (laws : IsFraming frame) where
   -- one group
-  pub put-group : (writes : List Write) (targets : List ℕ) (others : List (List ℤ)) (world : List FieldWorld) (fields : List (List ℤ)) → IsGroup frame count writes targets others → count ≤ length fields → HoldFields frame count world fields → HoldFields frame count (all_written world writes) (all_put targets others fields)
+  pub put-group : (writes : List Write) (targets : List ℕ) (others : List (List ℤ)) (world : List FieldWorld) (fields : List (List ℤ))
+      → IsGroup frame count writes targets others → count ≤ length fields → HoldFields frame count world fields
+      → HoldFields frame count (all_written world writes) (all_put targets others fields)
   put-group writes targets others world fields group long hold =
       let P : List ℕ → Type 0 = λ ks. HoldFields frame count (all_written world writes) (all_put ks others fields) in
       subst P group.fields (put-all frame count laws writes world others fields group.below long hold group.written)
 
   -- three of them
-  pub put-groups : (a s m : List Write) (ka ks km : List ℕ) (averaged assigned merged : List (List ℤ)) (world : List FieldWorld) (fields : List (List ℤ))
-      → IsGroup frame count a ka averaged → IsGroup frame count s ks assigned → IsGroup frame count m km merged → count ≤ length fields → HoldFields frame count world fields
+  pub put-groups : (a s m : List Write) (ka ks km : List ℕ) (averaged assigned merged : List (List ℤ)) (world : List FieldWorld)
+      (fields : List (List ℤ))
+      → IsGroup frame count a ka averaged → IsGroup frame count s ks assigned → IsGroup frame count m km merged → count ≤ length fields
+      → HoldFields frame count world fields
       → HoldFields frame count (all_written world (a ++ s ++ m)) (all_put km merged (all_put ks assigned (all_put ka averaged fields)))
   put-groups a s m ka ks km averaged assigned merged world fields group_a group_s group_m long hold =
       let first = all_put ka averaged fields in
@@ -94,7 +106,8 @@ module _ (frame : Frame) (count : ℕ) (laws : IsFraming frame) where
 -- ---- fields cut and joined
 
 -- the fields behind some of them
-pub on-block-drop : (frame : Frame) (number k : ℕ) (fields : List (List ℤ)) → AreOnBlock frame number fields → AreOnBlock frame (length (drop k fields)) (drop k fields)
+pub on-block-drop : (frame : Frame) (number k : ℕ) (fields : List (List ℤ)) → AreOnBlock frame number fields
+    → AreOnBlock frame (length (drop k fields)) (drop k fields)
 on-block-drop frame number k fields on = record {
   count = refl;
   places = All-drop (λ field. length field ≡ places_in frame) k fields on.places;
@@ -102,7 +115,8 @@ on-block-drop frame number k fields on = record {
 }
 
 -- fields and others behind them
-pub on-block-append : (frame : Frame) (n m : ℕ) (xs ys : List (List ℤ)) → AreOnBlock frame n xs → AreOnBlock frame m ys → AreOnBlock frame (n + m) (xs ++ ys)
+pub on-block-append : (frame : Frame) (n m : ℕ) (xs ys : List (List ℤ)) → AreOnBlock frame n xs → AreOnBlock frame m ys
+    → AreOnBlock frame (n + m) (xs ++ ys)
 on-block-append frame n m xs ys first second = record {
   count = length-append xs ys ∙ (λ i. first.count i + second.count i);
   places = All-append (λ field. length field ≡ places_in frame) xs ys first.places second.places;

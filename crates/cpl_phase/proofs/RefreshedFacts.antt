@@ -21,7 +21,8 @@ left-same old left same =
     ap (λ n. take n (left ++ drop (length left) old)) (sym same) ∙ take-append_seam left (drop (length left) old)
 
 -- the fields with one of them changed
-pub on-block-set : (frame : Frame) (number : ℕ) (fields : List (List ℤ)) (k : ℕ) (new : List ℤ) → AreOnBlock frame number fields → length new ≡ places_in frame → All IsValue new → AreOnBlock frame number (set fields k new)
+pub on-block-set : (frame : Frame) (number : ℕ) (fields : List (List ℤ)) (k : ℕ) (new : List ℤ) → AreOnBlock frame number fields
+    → length new ≡ places_in frame → All IsValue new → AreOnBlock frame number (set fields k new)
 on-block-set frame number fields k new on long values = record {
   count = length-set fields k new ∙ on.count;
   places = All-set (λ field. length field ≡ places_in frame) fields k new long on.places;
@@ -29,7 +30,8 @@ on-block-set frame number fields k new on long values = record {
 }
 
 -- what holds of the field that was, holds of the one in its place
-set-keeps : (P : List ℤ → Type 0) (fields : List (List ℤ)) (k j : ℕ) (new : List ℤ) → k < length fields → (P (field_at fields k) → P new) → P (field_at fields j) → P (field_at (set fields k new) j)
+set-keeps : (P : List ℤ → Type 0) (fields : List (List ℤ)) (k j : ℕ) (new : List ℤ) → k < length fields → (P (field_at fields k) → P new)
+    → P (field_at fields j) → P (field_at (set fields k new) j)
 set-keeps P fields k j new there keeps holds = elim (cases_eq j k) [
   | inl same ↦
       let Q : ℕ → Type 0 = λ n. P (field_at fields n) in
@@ -40,7 +42,8 @@ set-keeps P fields k j new there keeps holds = elim (cases_eq j k) [
 
 -- ---- rings
 
-pub refilled-more : (frame : Frame) (halo : List ℕ) (j k : ℕ) (old now : List (List ℤ)) (new : List ℤ) → k < length now → slice_index halo j ≡ k → AreRefilledTo j frame halo old now → IsRefilled frame (field_at now k) new → AreRefilledTo (j + 1) frame halo old (set now k new)
+pub refilled-more : (frame : Frame) (halo : List ℕ) (j k : ℕ) (old now : List (List ℤ)) (new : List ℤ) → k < length now → slice_index halo j ≡ k
+    → AreRefilledTo j frame halo old now → IsRefilled frame (field_at now k) new → AreRefilledTo (j + 1) frame halo old (set now k new)
 refilled-more frame halo j k old now new there is before refilled = record {
   own = λ i value own. set-keeps (IsOwn frame value) now k i new there (refilled.own value) (before.own i value own);
   arrived = λ i value arrived. set-keeps (IsArrived frame value) now k i new there (refilled.arrived value) (before.arrived i value arrived);

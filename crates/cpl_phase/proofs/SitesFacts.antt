@@ -28,13 +28,19 @@ site-more frame cells a b place old new laws spot is cells_are homes_are before 
     let inside : place < places_in frame = rw is home.within in
     record {
       listed = cells_are ∙ ap (λ xs. xs ++ cell_at frame a b ∷ []) before.listed;
-      homes = homes_are ∙ (λ i. before.homes i ++ (is ∙ sym (laws.home a b spot)) i ∷ []) ∙ sym (map-append (home_of frame) cells (cell_at frame a b ∷ []));
-      within = subst P (sym homes_are) (All-append (λ p. p < places_in frame) old.homes.items (place ∷ []) before.within (All-cons (λ p. p < places_in frame) place [] inside (All-nil (λ p. p < places_in frame))));
-      stands = ap (map (stands_for frame)) homes_are ∙ map-append (stands_for frame) old.homes.items (place ∷ []) ∙ (λ i. before.stands i ++ (ap (stands_for frame) is ∙ home.stands) i ∷ []);
+      homes = homes_are ∙ (λ i. before.homes i ++ (is ∙ sym (laws.home a b spot)) i ∷ [])
+          ∙ sym (map-append (home_of frame) cells (cell_at frame a b ∷ []));
+      within = subst P (sym homes_are)
+          (All-append (λ p. p < places_in frame) old.homes.items (place ∷ []) before.within
+          (All-cons (λ p. p < places_in frame) place [] inside (All-nil (λ p. p < places_in frame))));
+      stands = ap (map (stands_for frame)) homes_are ∙ map-append (stands_for frame) old.homes.items (place ∷ [])
+          ∙ (λ i. before.stands i ++ (ap (stands_for frame) is ∙ home.stands) i ∷ []);
     }
 
 -- a run of cells of a row, with the next
-pub run-more : (frame : Frame) (cells : List ℕ) (a b : ℕ) (sites : Sites) → AreSitesOf frame ((cells ++ range_with_len (part_cell frame.grid frame.part 0 b) a) ++ cell_at frame a b ∷ []) sites → AreSitesOf frame (cells ++ range_with_len (part_cell frame.grid frame.part 0 b) (a + 1)) sites
+pub run-more : (frame : Frame) (cells : List ℕ) (a b : ℕ) (sites : Sites)
+    → AreSitesOf frame ((cells ++ range_with_len (part_cell frame.grid frame.part 0 b) a) ++ cell_at frame a b ∷ []) sites
+    → AreSitesOf frame (cells ++ range_with_len (part_cell frame.grid frame.part 0 b) (a + 1)) sites
 run-more frame cells a b sites are =
     let P : List ℕ → Type 0 = λ xs. AreSitesOf frame xs sites in
     let start = part_cell frame.grid frame.part 0 b in
@@ -49,7 +55,9 @@ one-row : (f : ℕ → List ℕ) (b : ℕ) → f b ≡ flat_map f (b ∷ [])
 one-row f b = sym (append-none (f b))
 
 -- one row more
-pub rows-more : (frame : Frame) (b : ℕ) (sites : Sites) → AreSitesOf frame (flat_map (part_row frame.grid frame.part) (numbers_below b) ++ part_row frame.grid frame.part b) sites → AreSitesOf frame (flat_map (part_row frame.grid frame.part) (numbers_below (b + 1))) sites
+pub rows-more : (frame : Frame) (b : ℕ) (sites : Sites)
+    → AreSitesOf frame (flat_map (part_row frame.grid frame.part) (numbers_below b) ++ part_row frame.grid frame.part b) sites
+    → AreSitesOf frame (flat_map (part_row frame.grid frame.part) (numbers_below (b + 1))) sites
 rows-more frame b sites are =
     let P : List ℕ → Type 0 = λ xs. AreSitesOf frame xs sites in
     let row = part_row frame.grid frame.part in
@@ -61,7 +69,8 @@ rows-more frame b sites are =
     ∙ ap (λ n. flat_map row (numbers_below n)) (sym (add-one b))) are
 
 -- all rows
-pub rows-all : (frame : Frame) (b : ℕ) (sites : Sites) → b ≡ frame.part.rows.length → AreSitesOf frame (flat_map (part_row frame.grid frame.part) (numbers_below b)) sites → AreSites frame sites
+pub rows-all : (frame : Frame) (b : ℕ) (sites : Sites) → b ≡ frame.part.rows.length
+    → AreSitesOf frame (flat_map (part_row frame.grid frame.part) (numbers_below b)) sites → AreSites frame sites
 unfolding cells_of_part
 rows-all frame b sites is are =
     let P : ℕ → Type 0 = λ n. AreSitesOf frame (flat_map (part_row frame.grid frame.part) (numbers_below n)) sites in

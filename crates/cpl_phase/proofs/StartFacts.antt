@@ -25,15 +25,18 @@ row_of n rule = record { field = n; rule = rule }
 -- ---- their fields, and their writes
 
 -- one field more
-cons-fields : (n : ℕ) (o : Option Rule) (rows : List SetRow) (places : List ℕ) → map (λ (row : SetRow). row.field) rows ≡ places → map (λ (row : SetRow). row.field) (cons_option (option_map (row_of n) o) rows) ≡ cons_option (option_map (λ rule. n) o) places
+cons-fields : (n : ℕ) (o : Option Rule) (rows : List SetRow) (places : List ℕ) → map (λ (row : SetRow). row.field) rows ≡ places
+    → map (λ (row : SetRow). row.field) (cons_option (option_map (row_of n) o) rows) ≡ cons_option (option_map (λ rule. n) o) places
 cons-fields n None rows places same = same
 cons-fields n (Some rule) rows places same = ap (λ ks. n ∷ ks) same
 
 -- all
-fields-from : (n : ℕ) (described : List Field) → map (λ (row : SetRow). row.field) (rows_from n described) ≡ filter_map place_started (enumerate_from n described)
+fields-from : (n : ℕ) (described : List Field)
+    → map (λ (row : SetRow). row.field) (rows_from n described) ≡ filter_map place_started (enumerate_from n described)
 fields-from n [] = refl
 fields-from n (field ∷ described) =
-    cons-fields n field.start (rows_from (n + 1) described) (filter_map place_started (enumerate_from (n + 1) described)) (fields-from (n + 1) described)
+    cons-fields n field.start (rows_from (n + 1) described) (filter_map place_started (enumerate_from (n + 1) described))
+    (fields-from (n + 1) described)
 
 -- the places of start rules
 pub fields-started : (described : List Field) → map (λ (row : SetRow). row.field) (rows_started described) ≡ places_started described
@@ -41,15 +44,18 @@ fields-started described = fields-from 0 described
 
 -- one write more
 cons-writes : (reading : Reading) (n : ℕ) (o : Option Rule) (rows : List SetRow) (writes : List Write) → map (set_write reading) rows ≡ writes
-    → map (set_write reading) (cons_option (option_map (row_of n) o) rows) ≡ cons_option (option_map (λ rule. record { field = n; values = rule_values reading rule }) o) writes
+    → map (set_write reading) (cons_option (option_map (row_of n) o) rows) ≡ cons_option
+    (option_map (λ rule. record { field = n; values = rule_values reading rule }) o) writes
 cons-writes reading n None rows writes same = same
 cons-writes reading n (Some rule) rows writes same = ap (λ ws. record { field = n; values = rule_values reading rule } ∷ ws) same
 
 -- all
-pub writes-from : (reading : Reading) (n : ℕ) (described : List Field) → map (set_write reading) (rows_from n described) ≡ filter_map (start_write reading) (enumerate_from n described)
+pub writes-from : (reading : Reading) (n : ℕ) (described : List Field)
+    → map (set_write reading) (rows_from n described) ≡ filter_map (start_write reading) (enumerate_from n described)
 writes-from reading n [] = refl
 writes-from reading n (field ∷ described) =
-    cons-writes reading n field.start (rows_from (n + 1) described) (filter_map (start_write reading) (enumerate_from (n + 1) described)) (writes-from reading (n + 1) described)
+    cons-writes reading n field.start (rows_from (n + 1) described) (filter_map (start_write reading) (enumerate_from (n + 1) described))
+    (writes-from reading (n + 1) described)
 
 -- ---- the field of a row
 
@@ -63,7 +69,8 @@ pub record StartsIn (n : ℕ) (described : List Field) (row : SetRow) : Type 0 w
   pub start : field.start ≡ Some row.rule
 
 -- what holds of the row of a field, and of the others
-cons-starts : (P : SetRow → Type 0) (n : ℕ) (o : Option Rule) (rows : List SetRow) → ((rule : Rule) → o ≡ Some rule → P (row_of n rule)) → All P rows → All P (cons_option (option_map (row_of n) o) rows)
+cons-starts : (P : SetRow → Type 0) (n : ℕ) (o : Option Rule) (rows : List SetRow) → ((rule : Rule) → o ≡ Some rule → P (row_of n rule)) → All P rows
+    → All P (cons_option (option_map (row_of n) o) rows)
 cons-starts P n None rows first each = each
 cons-starts P n (Some rule) rows first each = All-cons P (row_of n rule) rows (first rule refl) each
 
@@ -82,10 +89,12 @@ starts-from n (field ∷ described) =
 -- ---- what holds of fields, of rows and of places
 
 -- what holds of the start rules of fields
-pub rows-each : (P : Rule → Type 0) (described : List Field) → All (λ field. ForSome field.start P) described → All (λ row. P row.rule) (rows_started described)
+pub rows-each : (P : Rule → Type 0) (described : List Field) → All (λ field. ForSome field.start P) described
+    → All (λ row. P row.rule) (rows_started described)
 rows-each P described each = λ j d inside.
     let found = starts-from 0 described j d inside in
-    each found.i found.field found.within (get_or (rows_started described) j d).rule (ap (λ (field : Field). field.start) (found.here found.field) ∙ found.start)
+    each found.i found.field found.within (get_or (rows_started described) j d).rule
+    (ap (λ (field : Field). field.start) (found.here found.field) ∙ found.start)
 
 -- the fields of rows are there
 pub rows-within : (described : List Field) → All (λ row. row.field < length described) (rows_started described)
@@ -99,7 +108,8 @@ rows-within described = λ j d inside.
 pub places-within : (described : List Field) → All (λ k. k < length described) (places_started described)
 places-within described =
     let P : List ℕ → Type 0 = All (λ k. k < length described) in
-    subst P (fields-started described) (All-map (λ k. k < length described) (λ (row : SetRow). row.field) (rows_started described) (rows-within described))
+    subst P (fields-started described)
+    (All-map (λ k. k < length described) (λ (row : SetRow). row.field) (rows_started described) (rows-within described))
 
 -- ---- one rule of a run
 
@@ -108,7 +118,8 @@ pub length-started : (described : List Field) → length (rows_started described
 length-started described = sym (length-map (rows_started described) (λ (row : SetRow). row.field)) ∙ ap length (fields-started described)
 
 -- the field of a place has the rule of the row
-pub started-row : (described : List Field) (places : List ℕ) (j : ℕ) (row : SetRow) (field : Field) → places ≡ places_started described → j < length places
+pub started-row : (described : List Field) (places : List ℕ) (j : ℕ) (row : SetRow) (field : Field) → places ≡ places_started described
+    → j < length places
     → field ≡ get_or described (get_or places j 0) field → field.start ≡ Some (get_or (rows_started described) j row).rule
 started-row described places j row field are inside is =
     let rows = rows_started described in

@@ -1,11 +1,16 @@
 pub mod Assignments
 pub mod Checks
+pub mod Imported
 pub mod Keeping
 pub mod Kept
+pub mod Locals
 pub mod Merging
+pub mod Opened
 pub mod Phases
 pub mod Puts
 pub mod Refreshed
+pub mod Rooms
+pub mod Shown
 pub mod Sites
 pub mod Starts
 pub mod Worlds

@@ -87,7 +87,7 @@ fn copy(field: &Field, out: &mut Field)
 }
 
 /// Writes values of the cells of a block to their places of a field.
-fn scatter_field(frame: &Frame, sites: &Sites, cells: &[i64], field: &mut Field)
+pub(crate) fn scatter_field(frame: &Frame, sites: &Sites, cells: &[i64], field: &mut Field)
     requires sites { AreSites frame.now sites.now }
     requires field { length field.old ≡ places_in frame.now }
     requires field_values { All IsValue field.old }
@@ -101,7 +101,7 @@ fn scatter_field(frame: &Frame, sites: &Sites, cells: &[i64], field: &mut Field)
 }
 
 /// Writes the values of a field at the cells of a block, one behind the other.
-fn gather(frame: &Frame, sites: &Sites, field: &[i64], cells: &mut [i64])
+pub(crate) fn gather(frame: &Frame, sites: &Sites, field: &[i64], cells: &mut [i64])
     requires sites { AreSites frame.now sites.now }
     requires field { length field.now ≡ places_in frame.now }
     requires cells { length cells.old ≡ length sites.now.homes.items }

@@ -44,17 +44,21 @@ loop-j-preserved c =
                 let A : RunningSums → Type 0 = λ a. StandsForBlock frame a field.kept in
                 let F : List ℤ → Type 0 = IsOwn frame (cell_value field.values) in
                 let stands = subst A (sym (c.loop-j.invariant.same k before) ∙ accum_is) (kept.each k few) in
-                let own = subst F (field_is ∙ sym c.index-fields-k.is) (c.frame_laws.ensures.held (cell_value field.values) (field_at fields k) (hold.values k few)) in
-                let made : IsWritten frame (average_write layout world k) out = c.average.ensures.written layout field.values field.kept grid stands own in
+                let own = subst F (field_is ∙ sym c.index-fields-k.is)
+                (c.frame_laws.ensures.held (cell_value field.values) (field_at fields k) (hold.values k few)) in
+                let made : IsWritten frame (average_write layout world k) out =
+                c.average.ensures.written layout field.values field.kept grid stands own in
                 let Q : ℕ → Type 0 = λ n. IsWritten frame (average_write layout world (slice_index places n)) (field_at (set others j out) n) in
                 let R : List ℤ → Type 0 = λ f. IsWritten frame (average_write layout world k) f in
                 subst Q (sym same) (subst R (sym (get_or-set_same others j out [] room)) made)
-            | inr other ↦ subst P (sym (get_or-set_other others j i out [] other)) (c.loop-j.invariant.written layout count world grid hold kept asked i (omega arith) within)
+            | inr other ↦ subst P (sym (get_or-set_other others j i out [] other))
+                (c.loop-j.invariant.written layout count world grid hold kept asked i (omega arith) within)
           ];
       kept = λ count world kept.
           let W : List FieldWorld → Type 0 = λ w. StandForKept frame count w (set accums k new) in
           subst W (sym (fold-more emptied world places j 0 inside))
-          (forgotten-one frame count (fold emptied world (take j places)) accums k new at c.average.ensures.stands (c.loop-j.invariant.kept count world kept));
+          (forgotten-one frame count (fold emptied world (take j places)) accums k new at c.average.ensures.stands
+          (c.loop-j.invariant.kept count world kept));
       same = λ i others_only.
           get_or-set_other accums k i new (no_sums 0) (λ is. others_only j (omega arith) (sym is))
           ∙ c.loop-j.invariant.same i (λ n below. others_only n (omega arith));
@@ -62,12 +66,14 @@ loop-j-preserved c =
         number = length-set accums k new ∙ c.loop-j.invariant.accums.number;
         each = All-set (IsAccumOf (length c.args.sites.now.homes.items)) accums k new c.average.ensures.accum c.loop-j.invariant.accums.each;
       };
-      sums = sums-set accums c.args.accums.now k new at (c.average.ensures.sums ∙ ap (λ (a : RunningSums). length a.sums) (sym accum_is)) c.loop-j.invariant.sums;
+      sums = sums-set accums c.args.accums.now k new at
+          (c.average.ensures.sums ∙ ap (λ (a : RunningSums). length a.sums) (sym accum_is)) c.loop-j.invariant.sums;
       fewer = count-set accums c.args.accums.now k new at c.average.ensures.stands.count c.loop-j.invariant.fewer;
       aged = λ bound each.
           let Few : RunningSums → Type 0 = λ a. a.count ≤ bound in
           All-set Few accums k new (omega (arith, c.average.ensures.stands.count)) (c.loop-j.invariant.aged bound each);
-      others = on-block-set frame (length c.args.others.now) others j out c.loop-j.invariant.others c.average.ensures.places c.average.ensures.out_values;
+      others = on-block-set frame
+          (length c.args.others.now) others j out c.loop-j.invariant.others c.average.ensures.places c.average.ensures.out_values;
     }
 
 pub returns-clause-written : goal.returns-clause-written

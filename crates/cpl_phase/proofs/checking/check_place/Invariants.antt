@@ -9,5 +9,7 @@ use Rattle.cpl_phase.proofs.checking.check_place.Given as goal
 -- what is left to check finds what all find
 abbrev pub invariant-loop-number : goal.invariant-loop-number
 invariant-loop-number l =
-    least_fault (noted_fault l.found) (flat_map (λ numbered. value_fault l.s (value_at (field_at l.fields numbered.1.field) l.place) numbered) (enumerate_from l.number (drop l.number l.rows)))
+    least_fault (noted_fault l.found)
+    (flat_map (λ numbered. value_fault l.s (value_at (field_at l.fields numbered.1.field) l.place) numbered)
+    (enumerate_from l.number (drop l.number l.rows)))
     ≡ least_fault (noted_fault l.initial.found) (place_faults l.fields l.rows l.place l.s)

@@ -10,9 +10,11 @@ loop-j-preserved g c =
     let made = c.assign.ensures.value in
     let there : j < length c.loop-j.others = omega (arith, c.loop-j-test.true, c.requires.count, c.loop-j.auto.others) in
     record {
-      values = assigned-more c.args.scene.now (entries_of c.args.book.now) c.args.rows.now c.args.fields.now c.loop-j.others j c.assign.new.out c.index-rows-j.result c.loop-j-test.true there c.loop-j.invariant.values
+      values = assigned-more c.args.scene.now (entries_of c.args.book.now) c.args.rows.now c.args.fields.now c.loop-j.others j c.assign.new.out
+          c.index-rows-j.result c.loop-j-test.true there c.loop-j.invariant.values
           made;
-      others = on-block-set c.args.scene.now.frame (length c.args.others.now) c.loop-j.others j c.assign.new.out c.loop-j.invariant.others made.places made.values;
+      others = on-block-set c.args.scene.now.frame
+          (length c.args.others.now) c.loop-j.others j c.assign.new.out c.loop-j.invariant.others made.places made.values;
       room = record {
         places = c.assign.ensures.room.places ∙ c.loop-j.invariant.room.places;
         inputs = c.assign.ensures.room.inputs ∙ c.loop-j.invariant.room.inputs;

@@ -20,15 +20,19 @@ loop-k-preserved c =
     let fits : FitsSigned w64 (get_or c.args.cells.now k (pos 0)) = omega (arith, ints, value_is) in
     let made : c.put.new.field ≡ set c.loop-k.field (slice_index homes k) (get_or c.args.cells.now k (pos 0)) =
     c.put.ensures ∙ (λ i. set c.loop-k.field (at i) (to_z-of_z fits i)) in
-    let there : slice_index homes k < length c.loop-k.field = omega (arith, c.requires.sites.within k 0 inside, c.requires.field, c.loop-k.auto.field) in
+    let there : slice_index homes k < length c.loop-k.field =
+    omega (arith, c.requires.sites.within k 0 inside, c.requires.field, c.loop-k.auto.field) in
     let V : List ℤ → Type 0 = All IsValue in
     record {
-      values = subst V (sym made) (All-set IsValue c.loop-k.field (slice_index homes k) (get_or c.args.cells.now k (pos 0)) value_is c.loop-k.invariant.values);
+      values = subst V (sym made)
+          (All-set IsValue c.loop-k.field (slice_index homes k) (get_or c.args.cells.now k (pos 0)) value_is c.loop-k.invariant.values);
       cells = λ value is.
           let P : List ℤ → Type 0 = λ field. (j : ℕ) → j < k + 1 → value_at field (slice_index homes j) ≡ value (slice_index cells j) in
-          subst P (sym made) (scattered-more c.args.frame.now c.args.sites.now c.requires.sites value k c.args.cells.now c.loop-k.field is inside there (c.loop-k.invariant.cells value is));
+          subst P (sym made) (scattered-more c.args.frame.now c.args.sites.now c.requires.sites value k c.args.cells.now c.loop-k.field is inside
+          there (c.loop-k.invariant.cells value is));
     }
 
 pub returns-clause-cells : goal.returns-clause-cells
 returns-clause-cells c = λ value is.
-    scattered-all c.args.frame.now c.args.sites.now c.requires.sites value c.loop-k.k c.loop-k.field (omega (arith, c.loop-k-test.false, c.requires.cells)) (c.loop-k.invariant.cells value is)
+    scattered-all c.args.frame.now c.args.sites.now c.requires.sites value c.loop-k.k c.loop-k.field
+    (omega (arith, c.loop-k-test.false, c.requires.cells)) (c.loop-k.invariant.cells value is)

@@ -47,15 +47,19 @@ loop-j-preserved g c =
       kept = λ halo reading count world at entries haloed held kept.
           let W : List FieldWorld → Type 0 = λ w. StandForKept frame count w (set accums k new) in
           let Haloed : SetRow → Type 0 = λ r. All (IsHaloed halo) (arguments_of r.rule) in
-          let own = own-over frame reading.layout (rule_value reading row.rule) further c.frame_laws.ensures at.over (made.own halo reading at entries (subst Haloed (sym is) (haloed j row inside)) held) in
+          let own = own-over frame reading.layout (rule_value reading row.rule) further c.frame_laws.ensures at.over
+          (made.own halo reading at entries (subst Haloed (sym is) (haloed j row inside)) held) in
           let values : values_in frame further ≡ values_of_block frame (rule_values reading row.rule) =
           c.frame_laws.ensures.listed (cell_value (over_cells reading.layout (rule_value reading row.rule))) further own in
-          let more : (kept : List (List ℤ)) → StandsFor (accum_at accums k) kept → StandsFor new (kept ++ values_of_block frame (rule_values reading row.rule) ∷ []) = λ kept stands.
+          let more : (kept : List (List ℤ)) → StandsFor (accum_at accums k) kept
+          → StandsFor new (kept ++ values_of_block frame (rule_values reading row.rule) ∷ []) = λ kept stands.
           let V : List ℤ → Type 0 = λ vs. StandsFor new (kept ++ vs ∷ []) in
           let A : RunningSums → Type 0 = λ a. StandsFor a kept in
           subst V values (c.keep.ensures.stands kept (subst A accum_is stands)) in
-          subst W (sym (fold-more (kept_more reading) world rows j row inside ∙ ap (kept_more reading (fold (kept_more reading) world (take j rows))) (sym is)))
-          (kept-one frame count (fold (kept_more reading) world (take j rows)) accums k (rule_values reading row.rule) new there more (c.loop-j.invariant.kept halo reading count world at entries haloed held kept));
+          subst W (sym (fold-more (kept_more reading) world rows j row inside
+          ∙ ap (kept_more reading (fold (kept_more reading) world (take j rows))) (sym is)))
+          (kept-one frame count (fold (kept_more reading) world (take j rows)) accums k (rule_values reading row.rule) new there more
+          (c.loop-j.invariant.kept halo reading count world at entries haloed held kept));
       accums = All-set (IsAccumOf (length c.args.sites.now.homes.items)) accums k new c.keep.ensures.accum c.loop-j.invariant.accums;
       sums = sums-set accums first k new there old_sums c.loop-j.invariant.sums;
       same = λ i others_only.
@@ -79,7 +83,8 @@ loop-j-preserved g c =
 pub returns-clause-kept : goal.returns-clause-kept
 returns-clause-kept g c = λ halo reading count world at entries haloed held kept.
     let W : List FieldWorld → Type 0 = λ w. StandForKept c.args.scene.now.frame count w c.loop-j.accums in
-    subst W (ap (fold (kept_more reading) world) (take_all c.loop-j.j c.args.rows.now c.loop-j-test.false)) (c.loop-j.invariant.kept halo reading count world at entries haloed held kept)
+    subst W (ap (fold (kept_more reading) world) (take_all c.loop-j.j c.args.rows.now c.loop-j-test.false))
+    (c.loop-j.invariant.kept halo reading count world at entries haloed held kept)
 
 pub assign-requires-clause-rule : goal.assign-requires-clause-rule
 assign-requires-clause-rule g c =

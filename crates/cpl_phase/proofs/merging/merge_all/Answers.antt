@@ -13,8 +13,10 @@ loop-j-preserved c =
     let Made : MergeRow → Type 0 = λ row. IsSwept c.args.frame.now (merge_step c.args.frame.now row.terms c.args.fields.now) c.merge_field.new.out in
     let there : j < length c.loop-j.others = omega (arith, c.loop-j-test.true, c.requires.count, c.loop-j.auto.others) in
     record {
-      values = merged-more c.args.frame.now c.args.rows.now c.args.fields.now c.loop-j.others j c.merge_field.new.out c.index-rows-j.result c.loop-j-test.true there c.loop-j.invariant.values (subst Made c.index-rows-j.is made);
-      others = on-block-set c.args.frame.now (length c.args.others.now) c.loop-j.others j c.merge_field.new.out c.loop-j.invariant.others made.places made.values;
+      values = merged-more c.args.frame.now c.args.rows.now c.args.fields.now c.loop-j.others j c.merge_field.new.out c.index-rows-j.result
+          c.loop-j-test.true there c.loop-j.invariant.values (subst Made c.index-rows-j.is made);
+      others = on-block-set c.args.frame.now
+          (length c.args.others.now) c.loop-j.others j c.merge_field.new.out c.loop-j.invariant.others made.places made.values;
     }
 
 pub returns-clause-values : goal.returns-clause-values

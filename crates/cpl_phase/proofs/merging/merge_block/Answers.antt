@@ -17,4 +17,5 @@ returns c =
     c.merge_run.ensures.values
     ∙ (λ i. map (λ step. merge_at (c.items.ensures i) fields (c.first-first.ensures.value i + step)) (range_with_len 0 n)) in
     swept-block frame (merge_step frame terms fields) first span (first + span - first) out c.merge_run.new.these
-    c.frame_laws.ensures c.first-first.ensures.value c.span-span.ensures.value (omega arith) c.requires.out c.requires.out_values c.merge_run.ensures.within made
+    c.frame_laws.ensures c.first-first.ensures.value c.span-span.ensures.value
+    (omega arith) c.requires.out c.requires.out_values c.merge_run.ensures.within made

@@ -16,5 +16,6 @@ loop-step-preserved c =
     record {
       values = ran-more (λ step. merge_at c.args.terms.now c.args.fields.now (c.args.first + step)) step these v inside c.loop-step.invariant.values
           (to_z-of_z w64 c.merge_one.result fits ∙ c.merge_one.ensures.value);
-      within = within-more step these v inside c.loop-step.invariant.within (subst (λ (z : ℤ). IsValue z) (sym (to_z-of_z w64 c.merge_one.result fits)) c.merge_one.ensures.within);
+      within = within-more step these v inside c.loop-step.invariant.within
+          (subst (λ (z : ℤ). IsValue z) (sym (to_z-of_z w64 c.merge_one.result fits)) c.merge_one.ensures.within);
     }

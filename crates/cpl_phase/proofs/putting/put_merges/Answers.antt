@@ -18,9 +18,15 @@ loop-j-preserved c =
     let Back : List ℤ → Type 0 = λ next. AreBack c.args.fields.now c.args.others.now (set c.loop-j.others j next) in
     let There : List (List ℤ) → Type 0 = λ fields. AreBack c.args.others.now c.args.fields.now fields in
     record {
-      put = ap (all_put (map (λ (row : MergeRow). row.field) (drop (j + 1) c.args.rows.now)) (drop (j + 1) (set c.loop-j.others j c.replace.new.next))) new_fields
-          ∙ put-more (λ (row : MergeRow). row.field) c.args.rows.now c.loop-j.others c.loop-j.fields j row c.replace.new.next c.loop-j-test.true inside
+      put = ap (all_put (map (λ (row : MergeRow). row.field) (drop (j + 1) c.args.rows.now))
+          (drop (j + 1) (set c.loop-j.others j c.replace.new.next))) new_fields
+          ∙ put-more (λ (row : MergeRow). row.field) c.args.rows.now c.loop-j.others c.loop-j.fields j row c.replace.new.next
+          c.loop-j-test.true inside
           ∙ c.loop-j.invariant.put;
-      back = subst Back (sym c.replace.ensures.next) (back-more c.args.fields.now c.args.others.now c.loop-j.fields c.loop-j.others k j at inside c.loop-j.invariant.back c.loop-j.invariant.there);
-      there = subst There (sym new_fields) (back-more c.args.others.now c.args.fields.now c.loop-j.others c.loop-j.fields j k inside at c.loop-j.invariant.there c.loop-j.invariant.back);
+      back = subst Back (sym c.replace.ensures.next)
+          (back-more c.args.fields.now c.args.others.now c.loop-j.fields c.loop-j.others k j at inside c.loop-j.invariant.back
+          c.loop-j.invariant.there);
+      there = subst There (sym new_fields)
+          (back-more c.args.others.now c.args.fields.now c.loop-j.others c.loop-j.fields j k inside at c.loop-j.invariant.there
+          c.loop-j.invariant.back);
     }

@@ -19,6 +19,10 @@ loop-j-preserved c =
       put = ap (all_put (drop (j + 1) c.args.places.now) (drop (j + 1) (set c.loop-j.others j c.replace.new.next))) new_fields
           ∙ put-place c.args.places.now c.loop-j.others c.loop-j.fields j 0 c.replace.new.next c.loop-j-test.true inside
           ∙ c.loop-j.invariant.put;
-      back = subst Back (sym c.replace.ensures.next) (back-more c.args.fields.now c.args.others.now c.loop-j.fields c.loop-j.others k j at inside c.loop-j.invariant.back c.loop-j.invariant.there);
-      there = subst There (sym new_fields) (back-more c.args.others.now c.args.fields.now c.loop-j.others c.loop-j.fields j k inside at c.loop-j.invariant.there c.loop-j.invariant.back);
+      back = subst Back (sym c.replace.ensures.next)
+          (back-more c.args.fields.now c.args.others.now c.loop-j.fields c.loop-j.others k j at inside c.loop-j.invariant.back
+          c.loop-j.invariant.there);
+      there = subst There (sym new_fields)
+          (back-more c.args.others.now c.args.fields.now c.loop-j.others c.loop-j.fields j k inside at c.loop-j.invariant.there
+          c.loop-j.invariant.back);
     }

@@ -14,9 +14,12 @@ loop-j-preserved c =
     let on = c.loop-j.invariant.fields in
     let new = c.refresh_one.new.field in
     let Old : List ℤ → Type 0 = λ old. IsRefilled c.args.frame.now old new in
-    let refilled : IsRefilled c.args.frame.now (field_at c.loop-j.fields k) new = subst Old (get_or_default c.loop-j.fields k c.index-fields-k.result [] there) c.refresh_one.ensures in
+    let refilled : IsRefilled c.args.frame.now (field_at c.loop-j.fields k) new =
+    subst Old (get_or_default c.loop-j.fields k c.index-fields-k.result [] there) c.refresh_one.ensures in
     let long : length (field_at c.loop-j.fields k) ≡ places_in c.args.frame.now = on.places k [] there in
     record {
-      fields = on-block-set c.args.frame.now (length c.args.fields.now) c.loop-j.fields k new on (refilled.count ∙ long) (refilled.values (on.values k [] there));
-      filled = refilled-more c.args.frame.now c.args.halo.now c.loop-j.j k c.args.fields.now c.loop-j.fields new there refl c.loop-j.invariant.filled refilled;
+      fields = on-block-set c.args.frame.now (length c.args.fields.now) c.loop-j.fields k new on (refilled.count ∙ long)
+          (refilled.values (on.values k [] there));
+      filled = refilled-more c.args.frame.now c.args.halo.now c.loop-j.j k c.args.fields.now c.loop-j.fields new there refl c.loop-j.invariant.filled
+          refilled;
     }

@@ -13,4 +13,5 @@ loop-a-init c = λ cells are.
 pub loop-a-preserved : goal.loop-a-preserved
 loop-a-preserved c = λ cells are.
     let frame = c.args.frame.now in
-    run-more frame cells c.loop-a.a c.args.b c.note_site.new.sites (c.in_ok-note_site.ensures (cells ++ range_with_len (part_cell frame.grid frame.part 0 c.args.b) c.loop-a.a) (c.loop-a.invariant cells are))
+    run-more frame cells c.loop-a.a c.args.b c.note_site.new.sites
+    (c.in_ok-note_site.ensures (cells ++ range_with_len (part_cell frame.grid frame.part 0 c.args.b) c.loop-a.a) (c.loop-a.invariant cells are))

@@ -12,7 +12,8 @@ cell_at-requires-clause-cell c =
 
 pub returns : goal.returns
 returns c = λ cells are.
-    site-more c.args.frame.now cells c.args.a c.args.b (c.first.result + c.step_to.result) c.args.sites.now (record { cells = c.push.new.self; homes = c.push-2.new.self }) c.frame_laws.ensures c.requires.spot
+    site-more c.args.frame.now cells c.args.a c.args.b (c.first.result + c.step_to.result) c.args.sites.now
+    (record { cells = c.push.new.self; homes = c.push-2.new.self }) c.frame_laws.ensures c.requires.spot
     (λ i. c.first.ensures.value i + c.step_to.ensures.value i)
     (c.in_ok-push.ensures.items ∙ ap (λ s. c.args.sites.now.cells.items ++ s ∷ []) c.cell_at.ensures)
     c.in_ok-push-2.ensures.items are

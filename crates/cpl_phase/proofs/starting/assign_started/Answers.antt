@@ -50,9 +50,11 @@ loop-j-preserved g c =
     let there : j < length others = omega (arith, inside, c.requires.count, c.loop-j.auto.others) in
     record {
       assigned = λ i row below within.
-          let made = c.assign_one.ensures.value (get_or rows j row).rule (started-row described started j row c.index-described-k.result c.requires.started inside c.index-described-k.is) in
+          let made = c.assign_one.ensures.value (get_or rows j row).rule
+          (started-row described started j row c.index-described-k.result c.requires.started inside c.index-described-k.is) in
           assigned-more scene book rows c.args.fields.now others j out row among there c.loop-j.invariant.assigned made i row below within;
-      others = on-block-set scene.frame (length c.args.others.now) others j out c.loop-j.invariant.others c.assign_one.ensures.out c.assign_one.ensures.out_values;
+      others = on-block-set scene.frame
+          (length c.args.others.now) others j out c.loop-j.invariant.others c.assign_one.ensures.out c.assign_one.ensures.out_values;
       room = record {
         places = c.assign_one.ensures.room.places ∙ c.loop-j.invariant.room.places;
         inputs = c.assign_one.ensures.room.inputs ∙ c.loop-j.invariant.room.inputs;

@@ -50,7 +50,8 @@ returns-clause-written g c = λ reading world at entries same hold arrived.
     let listed = ap length c.requires.started in
     let many : length rows ≤ length others = omega (arith, listed, length-started described, c.requires.count, c.assign_started.auto.others) in
     let Haloed : Rule → Type 0 = λ rule. All (IsHaloed halo) (arguments_of rule) in
-    let made = sets-written scene (entries_of c.args.book.now) halo reading now laws at entries held rows others many (rows-each Haloed described c.requires.haloed) c.assign_started.ensures.values in
+    let made = sets-written scene (entries_of c.args.book.now) halo reading now laws at entries held rows others many
+    (rows-each Haloed described c.requires.haloed) c.assign_started.ensures.values in
     let all : length now ≡ length old = c.refresh.ensures.fields.count in
     let long : count ≤ length now = omega (arith, all, c.requires.fields.number) in
     let Below : Write → Type 0 = λ write. write.field < count in
@@ -63,13 +64,15 @@ returns-clause-written g c = λ reading world at entries same hold arrived.
     } in
     let W : List Write → Type 0 = λ ws. HoldFields frame count (all_written world ws) c.put_places.new.fields in
     let P : List (List ℤ) → Type 0 = HoldFields frame count (all_written world writes) in
-    subst W (writes-from reading 0 described) (subst P (sym c.put_places.ensures.fields) (put-group frame count laws writes started others world now group long still))
+    subst W (writes-from reading 0 described)
+    (subst P (sym c.put_places.ensures.fields) (put-group frame count laws writes started others world now group long still))
 
 pub returns-clause-fields : goal.returns-clause-fields
 returns-clause-fields g c =
     let scene = c.args.scene.now in
     let P : List (List ℤ) → Type 0 = AreFields scene.frame scene.fields in
-    let on = on-block-put scene.frame (length c.args.others.now) (length c.args.fields.now) c.args.started.now c.assign_started.new.others c.refresh.new.fields c.assign_started.ensures.others c.refresh.ensures.fields in
+    let on = on-block-put scene.frame (length c.args.others.now) (length c.args.fields.now) c.args.started.now c.assign_started.new.others
+    c.refresh.new.fields c.assign_started.ensures.others c.refresh.ensures.fields in
     subst P (sym c.put_places.ensures.fields) (record { number = on.count ∙ c.requires.fields.number; places = on.places; values = on.values })
 
 pub returns-clause-numbers : goal.returns-clause-numbers
@@ -82,7 +85,8 @@ returns-clause-numbers g c =
     let Below : List ℕ → Type 0 = All (λ target. target < count) in
     let N : ℕ → Type 0 = λ n. All (λ k. k < n) c.args.started.now in
     let Places : List ℕ → Type 0 = All (λ k. k < length c.args.described.now) in
-    let below : Below c.args.started.now = subst N c.requires.described (subst Places (sym c.requires.started) (places-within c.args.described.now)) in
+    let below : Below c.args.started.now =
+    subst N c.requires.described (subst Places (sym c.requires.started) (places-within c.args.described.now)) in
     let stays : (k : ℕ) → count ≤ k → field_at now k ≡ field_at c.put_places.new.fields k = λ k past.
     sym (put-other count k c.args.started.now c.assign_started.new.others now below past)
     ∙ ap (λ fields. field_at fields k) (sym c.put_places.ensures.fields) in

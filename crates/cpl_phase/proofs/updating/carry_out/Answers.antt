@@ -22,13 +22,15 @@ returns-clause-others g c =
     let on2 : On rest2 = subst On (sym s.back) (on-block-drop frame (length rest1) ks rest1 on1) in
     let on3 : On rest3 = subst On (sym m.back) (on-block-drop frame (length rest2) km rest2 on2) in
     let last = set rest3 0 c.carry_over.new.further in
-    let on_last : AreOnBlock frame (length rest3) last = on-block-set frame (length rest3) rest3 0 c.carry_over.new.further on3 c.carry_over.ensures.further c.carry_over.ensures.further_values in
+    let on_last : AreOnBlock frame (length rest3) last =
+    on-block-set frame (length rest3) rest3 0 c.carry_over.new.further on3 c.carry_over.ensures.further c.carry_over.ensures.further_values in
     let n = length c.split_at_mut-merged.result.0.now + length rest3 in
     let k = length c.split_at_mut-assigned.result.0.now + n in
     let averaged = c.carry_over.new.averaged in
     let assigned = c.carry_over.new.assigned in
     let merged = c.carry_over.new.merged in
-    let joined = on-block-append frame (length c.split_at_mut-averaged.result.0.now) k averaged (assigned ++ (merged ++ last)) c.carry_over.ensures.averaged
+    let joined = on-block-append frame (length c.split_at_mut-averaged.result.0.now) k averaged
+    (assigned ++ (merged ++ last)) c.carry_over.ensures.averaged
     (on-block-append frame (length c.split_at_mut-assigned.result.0.now) n assigned (merged ++ last) c.carry_over.ensures.assigned
     (on-block-append frame (length c.split_at_mut-merged.result.0.now) (length rest3) merged last c.carry_over.ensures.merged on_last)) in
     let N : ℕ → Type 0 = λ number. AreOnBlock frame number (averaged ++ (assigned ++ (merged ++ last))) in

@@ -23,10 +23,14 @@ pub returns-clause-after : goal.returns-clause-after
 returns-clause-after g c = λ reading world at entries same hold arrived kept.
     let put_averages : c.put_places.new.fields ≡ all_put c.args.phase.now.averages c.work_out.new.averaged c.refresh.new.fields =
     c.put_places.ensures.fields ∙ ap (λ ks. all_put ks c.work_out.new.averaged c.refresh.new.fields) c.items-averages.ensures in
-    let put_sets : c.put_sets.new.fields ≡ all_put (map (λ (row : SetRow). row.field) c.args.phase.now.sets) c.work_out.new.assigned c.put_places.new.fields =
-    c.put_sets.ensures.fields ∙ ap (λ rows. all_put (map (λ (row : SetRow). row.field) rows) c.work_out.new.assigned c.put_places.new.fields) c.items-sets.ensures in
-    let put_merges : c.put_merges.new.fields ≡ all_put (map (λ (row : MergeRow). row.field) c.args.phase.now.merges) c.work_out.new.merged c.put_sets.new.fields =
-    c.put_merges.ensures.fields ∙ ap (λ rows. all_put (map (λ (row : MergeRow). row.field) rows) c.work_out.new.merged c.put_sets.new.fields) c.items-merges.ensures in
+    let put_sets : c.put_sets.new.fields ≡ all_put
+    (map (λ (row : SetRow). row.field) c.args.phase.now.sets) c.work_out.new.assigned c.put_places.new.fields =
+    c.put_sets.ensures.fields
+    ∙ ap (λ rows. all_put (map (λ (row : SetRow). row.field) rows) c.work_out.new.assigned c.put_places.new.fields) c.items-sets.ensures in
+    let put_merges : c.put_merges.new.fields ≡ all_put
+    (map (λ (row : MergeRow). row.field) c.args.phase.now.merges) c.work_out.new.merged c.put_sets.new.fields =
+    c.put_merges.ensures.fields
+    ∙ ap (λ rows. all_put (map (λ (row : MergeRow). row.field) rows) c.work_out.new.merged c.put_sets.new.fields) c.items-merges.ensures in
     let scene = c.args.scene.now in
     let frame = scene.frame in
     let count = scene.fields in
@@ -89,10 +93,14 @@ pub returns-clause-fields : goal.returns-clause-fields
 returns-clause-fields g c =
     let put_averages : c.put_places.new.fields ≡ all_put c.args.phase.now.averages c.work_out.new.averaged c.refresh.new.fields =
     c.put_places.ensures.fields ∙ ap (λ ks. all_put ks c.work_out.new.averaged c.refresh.new.fields) c.items-averages.ensures in
-    let put_sets : c.put_sets.new.fields ≡ all_put (map (λ (row : SetRow). row.field) c.args.phase.now.sets) c.work_out.new.assigned c.put_places.new.fields =
-    c.put_sets.ensures.fields ∙ ap (λ rows. all_put (map (λ (row : SetRow). row.field) rows) c.work_out.new.assigned c.put_places.new.fields) c.items-sets.ensures in
-    let put_merges : c.put_merges.new.fields ≡ all_put (map (λ (row : MergeRow). row.field) c.args.phase.now.merges) c.work_out.new.merged c.put_sets.new.fields =
-    c.put_merges.ensures.fields ∙ ap (λ rows. all_put (map (λ (row : MergeRow). row.field) rows) c.work_out.new.merged c.put_sets.new.fields) c.items-merges.ensures in
+    let put_sets : c.put_sets.new.fields ≡ all_put
+    (map (λ (row : SetRow). row.field) c.args.phase.now.sets) c.work_out.new.assigned c.put_places.new.fields =
+    c.put_sets.ensures.fields
+    ∙ ap (λ rows. all_put (map (λ (row : SetRow). row.field) rows) c.work_out.new.assigned c.put_places.new.fields) c.items-sets.ensures in
+    let put_merges : c.put_merges.new.fields ≡ all_put
+    (map (λ (row : MergeRow). row.field) c.args.phase.now.merges) c.work_out.new.merged c.put_sets.new.fields =
+    c.put_merges.ensures.fields
+    ∙ ap (λ rows. all_put (map (λ (row : MergeRow). row.field) rows) c.work_out.new.merged c.put_sets.new.fields) c.items-merges.ensures in
     let scene = c.args.scene.now in
     let frame = scene.frame in
     let n = length c.args.fields.now in
@@ -101,20 +109,27 @@ returns-clause-fields g c =
     let P : List (List ℤ) → Type 0 = AreFields frame scene.fields in
     let Q : List (List ℤ) → Type 0 = AreOnBlock frame n in
     let first : AreOnBlock frame n c.put_places.new.fields = subst Q (sym put_averages)
-    (on-block-put frame (length c.args.averaged.now) n phase.averages c.work_out.new.averaged now c.work_out.ensures.averaged c.refresh.ensures.fields) in
+    (on-block-put frame (length c.args.averaged.now) n phase.averages c.work_out.new.averaged now c.work_out.ensures.averaged
+    c.refresh.ensures.fields) in
     let second : AreOnBlock frame n c.put_sets.new.fields = subst Q (sym put_sets)
-    (on-block-put frame (length c.args.assigned.now) n (map (λ (row : SetRow). row.field) phase.sets) c.work_out.new.assigned c.put_places.new.fields c.work_out.ensures.assigned first) in
-    let on = on-block-put frame (length c.args.merged.now) n (map (λ (row : MergeRow). row.field) phase.merges) c.work_out.new.merged c.put_sets.new.fields c.work_out.ensures.merged second in
+    (on-block-put frame (length c.args.assigned.now) n
+    (map (λ (row : SetRow). row.field) phase.sets) c.work_out.new.assigned c.put_places.new.fields c.work_out.ensures.assigned first) in
+    let on = on-block-put frame (length c.args.merged.now) n
+    (map (λ (row : MergeRow). row.field) phase.merges) c.work_out.new.merged c.put_sets.new.fields c.work_out.ensures.merged second in
     subst P (sym put_merges) (record { number = on.count ∙ c.requires.fields.number; places = on.places; values = on.values })
 
 pub returns-clause-numbers : goal.returns-clause-numbers
 returns-clause-numbers g c =
     let put_averages : c.put_places.new.fields ≡ all_put c.args.phase.now.averages c.work_out.new.averaged c.refresh.new.fields =
     c.put_places.ensures.fields ∙ ap (λ ks. all_put ks c.work_out.new.averaged c.refresh.new.fields) c.items-averages.ensures in
-    let put_sets : c.put_sets.new.fields ≡ all_put (map (λ (row : SetRow). row.field) c.args.phase.now.sets) c.work_out.new.assigned c.put_places.new.fields =
-    c.put_sets.ensures.fields ∙ ap (λ rows. all_put (map (λ (row : SetRow). row.field) rows) c.work_out.new.assigned c.put_places.new.fields) c.items-sets.ensures in
-    let put_merges : c.put_merges.new.fields ≡ all_put (map (λ (row : MergeRow). row.field) c.args.phase.now.merges) c.work_out.new.merged c.put_sets.new.fields =
-    c.put_merges.ensures.fields ∙ ap (λ rows. all_put (map (λ (row : MergeRow). row.field) rows) c.work_out.new.merged c.put_sets.new.fields) c.items-merges.ensures in
+    let put_sets : c.put_sets.new.fields ≡ all_put
+    (map (λ (row : SetRow). row.field) c.args.phase.now.sets) c.work_out.new.assigned c.put_places.new.fields =
+    c.put_sets.ensures.fields
+    ∙ ap (λ rows. all_put (map (λ (row : SetRow). row.field) rows) c.work_out.new.assigned c.put_places.new.fields) c.items-sets.ensures in
+    let put_merges : c.put_merges.new.fields ≡ all_put
+    (map (λ (row : MergeRow). row.field) c.args.phase.now.merges) c.work_out.new.merged c.put_sets.new.fields =
+    c.put_merges.ensures.fields
+    ∙ ap (λ rows. all_put (map (λ (row : MergeRow). row.field) rows) c.work_out.new.merged c.put_sets.new.fields) c.items-merges.ensures in
     let scene = c.args.scene.now in
     let frame = scene.frame in
     let count = scene.fields in
@@ -161,7 +176,8 @@ returns-clause-assigned g c =
     let n = length c.args.fields.now in
     let Q : List (List ℤ) → Type 0 = AreOnBlock frame n in
     let first : AreOnBlock frame n c.put_places.new.fields = subst Q (sym put_averages)
-    (on-block-put frame (length c.args.averaged.now) n c.args.phase.now.averages c.work_out.new.averaged c.refresh.new.fields c.work_out.ensures.averaged c.refresh.ensures.fields) in
+    (on-block-put frame (length c.args.averaged.now) n c.args.phase.now.averages c.work_out.new.averaged c.refresh.new.fields
+    c.work_out.ensures.averaged c.refresh.ensures.fields) in
     let back = c.put_sets.ensures.others in
     record {
       count = c.put_sets.auto.others ∙ c.work_out.ensures.assigned.count;
@@ -173,16 +189,20 @@ pub returns-clause-merged : goal.returns-clause-merged
 returns-clause-merged g c =
     let put_averages : c.put_places.new.fields ≡ all_put c.args.phase.now.averages c.work_out.new.averaged c.refresh.new.fields =
     c.put_places.ensures.fields ∙ ap (λ ks. all_put ks c.work_out.new.averaged c.refresh.new.fields) c.items-averages.ensures in
-    let put_sets : c.put_sets.new.fields ≡ all_put (map (λ (row : SetRow). row.field) c.args.phase.now.sets) c.work_out.new.assigned c.put_places.new.fields =
-    c.put_sets.ensures.fields ∙ ap (λ rows. all_put (map (λ (row : SetRow). row.field) rows) c.work_out.new.assigned c.put_places.new.fields) c.items-sets.ensures in
+    let put_sets : c.put_sets.new.fields ≡ all_put
+    (map (λ (row : SetRow). row.field) c.args.phase.now.sets) c.work_out.new.assigned c.put_places.new.fields =
+    c.put_sets.ensures.fields
+    ∙ ap (λ rows. all_put (map (λ (row : SetRow). row.field) rows) c.work_out.new.assigned c.put_places.new.fields) c.items-sets.ensures in
     let frame = c.args.scene.now.frame in
     let n = length c.args.fields.now in
     let phase = c.args.phase.now in
     let Q : List (List ℤ) → Type 0 = AreOnBlock frame n in
     let first : AreOnBlock frame n c.put_places.new.fields = subst Q (sym put_averages)
-    (on-block-put frame (length c.args.averaged.now) n phase.averages c.work_out.new.averaged c.refresh.new.fields c.work_out.ensures.averaged c.refresh.ensures.fields) in
+    (on-block-put frame (length c.args.averaged.now) n phase.averages c.work_out.new.averaged c.refresh.new.fields c.work_out.ensures.averaged
+    c.refresh.ensures.fields) in
     let second : AreOnBlock frame n c.put_sets.new.fields = subst Q (sym put_sets)
-    (on-block-put frame (length c.args.assigned.now) n (map (λ (row : SetRow). row.field) phase.sets) c.work_out.new.assigned c.put_places.new.fields c.work_out.ensures.assigned first) in
+    (on-block-put frame (length c.args.assigned.now) n
+    (map (λ (row : SetRow). row.field) phase.sets) c.work_out.new.assigned c.put_places.new.fields c.work_out.ensures.assigned first) in
     let back = c.put_merges.ensures.others in
     record {
       count = c.put_merges.auto.others ∙ c.work_out.ensures.merged.count;

@@ -28,14 +28,17 @@ returns-clause-news g c = λ reading world at entries held hold kept.
     let many : length phase.averages ≤ length averaged = omega (arith, c.requires.average_count, c.average_all.auto.others) in
     let set_many : length phase.sets ≤ length assigned = omega (arith, c.requires.set_count, c.assign_all.auto.others) in
     let merge_many : length phase.merges ≤ length merged = omega (arith, c.requires.merge_count, c.merge_all.auto.others) in
-    let Means : List ℕ → Type 0 = λ ks. All (λ k. k < count) ks → (j : ℕ) → j < length ks → IsWritten frame (average_write reading.layout world (slice_index ks j)) (field_at averaged j) in
+    let Means : List ℕ → Type 0 = λ ks. All (λ k. k < count) ks → (j : ℕ) → j < length ks
+    → IsWritten frame (average_write reading.layout world (slice_index ks j)) (field_at averaged j) in
     let means = subst Means c.items.ensures (c.average_all.ensures.written reading.layout count world at.over hold kept) c.requires.phase.averages in
     let Assigned : List SetRow → Type 0 = λ rows. AreAssigned scene (entries_of c.args.book.now) rows fields assigned in
     let Merged : List MergeRow → Type 0 = λ rows. AreMerged frame rows fields merged in
     record {
       averages = averages-written frame reading.layout world phase.averages averaged many means;
-      sets = sets-written scene (entries_of c.args.book.now) halo reading fields laws at entries held phase.sets assigned set_many c.requires.phase.sets_haloed (subst Assigned c.items-2.ensures c.assign_all.ensures.values);
-      merges = merges-written frame count halo reading fields laws at.over held phase.merges merged merge_many c.requires.phase.merges (subst Merged c.items-3.ensures c.merge_all.ensures.values);
+      sets = sets-written scene (entries_of c.args.book.now) halo reading fields laws at entries held phase.sets assigned set_many
+          c.requires.phase.sets_haloed (subst Assigned c.items-2.ensures c.assign_all.ensures.values);
+      merges = merges-written frame count halo reading fields laws at.over held phase.merges merged merge_many c.requires.phase.merges
+          (subst Merged c.items-3.ensures c.merge_all.ensures.values);
     }
 
 pub returns-clause-kept : goal.returns-clause-kept
@@ -45,9 +48,12 @@ returns-clause-kept g c = λ reading world at entries held kept.
     let frame = c.args.scene.now.frame in
     let Emptied : List ℕ → Type 0 = λ ks. StandForKept frame count (fold emptied world ks) c.average_all.new.accums in
     let forgotten = fold emptied world phase.averages in
-    let still : StandForKept frame count forgotten c.average_all.new.accums = subst Emptied c.items.ensures (c.average_all.ensures.kept count world kept) in
-    let Adds : List SetRow → Type 0 = λ rows. All (λ row. All (IsHaloed phase.halo.fields) (arguments_of row.rule)) rows → StandForKept frame count (fold (kept_more reading) forgotten rows) c.keep_all.new.accums in
-    subst Adds c.items-4.ensures (λ haloed. c.keep_all.ensures.kept phase.halo.fields reading count forgotten at entries haloed held still) c.requires.phase.adds_haloed
+    let still : StandForKept frame count forgotten c.average_all.new.accums =
+    subst Emptied c.items.ensures (c.average_all.ensures.kept count world kept) in
+    let Adds : List SetRow → Type 0 = λ rows. All (λ row. All (IsHaloed phase.halo.fields) (arguments_of row.rule)) rows
+    → StandForKept frame count (fold (kept_more reading) forgotten rows) c.keep_all.new.accums in
+    subst Adds c.items-4.ensures
+    (λ haloed. c.keep_all.ensures.kept phase.halo.fields reading count forgotten at entries haloed held still) c.requires.phase.adds_haloed
 
 pub returns-clause-aged : goal.returns-clause-aged
 returns-clause-aged g c = λ bound each. c.keep_all.ensures.aged bound (c.average_all.ensures.aged bound each)
