@@ -1,0 +1,13 @@
+mod CarryFacts
+mod ChangedFacts
+mod CodeFacts
+mod EndFacts
+mod EndingFacts
+mod EngineFacts
+mod ImageFacts
+mod LinkFacts
+mod OpFacts
+mod OpenedFacts
+mod OutcomeFacts
+mod RunFacts
+mod WholeFacts

@@ -1,0 +1,10 @@
+pub mod Codes
+pub mod Ended
+pub mod Engines
+pub mod Images
+pub mod Linked
+pub mod Opened
+pub mod Passed
+pub mod Runs
+pub mod Whole
+pub mod Worlds
